@@ -1,0 +1,13 @@
+pub mod Numbers
+pub mod Rtt
+pub mod Ranges
+pub mod Sent
+pub mod Ack
+pub mod Loss
+pub mod Timer
+pub mod Cubic
+pub mod Control
+pub mod Connection
+pub mod Events
+pub mod Run
+pub mod Rehearsals
