@@ -1,17 +1,16 @@
 -- The cases of the answer, and that no two answers to one argument differ. Assumes nothing.
 use mathlib.Core.Path.{_≡_, refl, sym, ap, _∙_, subst}
-use Prim.Native.Nat.{ℕ, zero, suc, _+_, _*_, _/_, _%_, _^_, _≤_, _<_}
+use Prim.Native.Nat.{ℕ, _+_, _*_, _/_, _%_, _^_, _≤_, _<_}
 use native.Mathlib.Nat.{le-antisymm, mul-right-comm}
 use native.Mathlib.Omega.{arith}
-use mathlib.Core.Bool.{Bool, true, false, not, cond, _||_}
-use lib.IntN.{ℤ, pos, negsuc}
+use mathlib.Core.Bool.{Bool, true, false, cond}
+use lib.IntN.{ℤ, negsuc}
 use lib.Dec.{T, lit≤}
-use lib.Pow.{pow-pos}
 use lib.Ieee.{Float, nan, inf, fin, binary64, fits, le, eq, toBits, ofBits, up, down}
 use lib.Ieee.Fits.{down-pos}
-use lib.Ieee.Bits.{ofBits-toBits, is-true}
+use lib.Ieee.Bits.{ofBits-toBits}
 use lib.Ieee.Nearest.{div-same}
-use lib.Ieee.Positive.{num, den, positive, le→cross, between, above, above-of-le, values-of-le, cross→le, le-trans-positive}
+use lib.Ieee.Positive.{positive, le→cross, between, above, above-of-le}
 use Rattle.arith.specs.Root.{Answers, Case, Largest, Rooted, WholeRoot, cube, nought, least, greatest}
 use Rattle.arith.proofs.root.Limbs.{widest}
 use Rattle.arith.proofs.root.Units.{shifted, bit-by-bit}

@@ -1,11 +1,11 @@
 -- Laws of the definitions on whole numbers and rounding: a test's outcome from the fact, and the fact from the outcome. Assumes nothing.
 use Prim.Native.Nat.{ℕ, _+_, _-_, _*_, _/_, _^_, _≤_, _<_, min}
-use mathlib.Core.Path.{_≡_, refl, sym, ap, _∙_, subst}
+use mathlib.Core.Path.{_≡_, refl, ap, subst}
 use mathlib.Core.Bool.{Bool, true, false, not, cond}
 use native.Mathlib.Nat.{le-div-iff-mul-le, div-lt-iff-lt-mul, div-mul-le-self, lt-div-mul-add, mul-comm, zero-mul, mul-le-mul-right, lt-of-lt-of-le}
 use native.Mathlib.Omega.{arith}
-use lib.Dec.{T, leb, ltb, leb→le, nleb→lt, lit<, lit≤}
-use lib.IntN.{ℤ, pos, negsuc}
+use lib.Dec.{T, leb, leb→le, nleb→lt}
+use lib.IntN.{pos}
 use lib.Ieee.{Float, nan, inf, fin, up, down, lt, toUnsigned}
 use lib.Ieee.Fits.{down-pos}
 use borrow.Author.Tests.{le-leb, lt-leb, ltb-false}
@@ -19,7 +19,6 @@ use Rattle.arith.specs.declared.time.MomentSum.the-variants.{MomentOf, T
 use Rattle.arith.specs.declared.time.Sum.{Sum}
 use Rattle.arith.specs.declared.time.Sum.the-variants.{Fine, Over}
 use Rattle.arith.specs.declared.round.TimeThreshold.{TimeThreshold}
-use Rattle.arith.specs.declared.round.TimeThreshold.the-variants.{NineEighths, FiveFourths}
 
 apart : _≡_ {A = ℕ} 0 1 → ⊥
 apart z = omega arith

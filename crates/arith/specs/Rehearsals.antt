@@ -1,9 +1,9 @@
 -- The worked examples of 01, 'Rehearsals', that this crate answers, and edges beside them, as rows of one table under one claim.
 use Prim.Native.Nat.{ℕ, _+_}
-use mathlib.Core.Bool.{Bool, true, false, cond, _&&_}
+use mathlib.Core.Bool.{Bool, cond, _&&_}
 use mathlib.Core.List.{List, [], _∷_}
-use lib.Dec.{T, eqb, leb}
-use lib.Ieee.{Float, binary64, toBits, ofBits, eq, le, ofInt, add, div, toUnsigned}
+use lib.Dec.{T, eqb}
+use lib.Ieee.{binary64, toBits, ofBits, eq, le, ofInt, add, div, toUnsigned}
 use Rattle.arith.specs.Whole.{within}
 use Rattle.arith.specs.Time.{span, spanNumber, spanValue}
 use Rattle.arith.specs.Round.{nearest, productOf, secondsOf, truncatedOf}
@@ -52,8 +52,9 @@ table =
     ∷ root 4620693217682128896 0 4611686018427387904
     ∷ root 0 0 0
     ∷ root 0x8000_0000_0000_0000 0 0
-    -- of 27 it is 3, of 7.5 no perfect cube
+    -- of 27 it is 3; of 2 the nearest float lies above it; of 7.5
     ∷ root 4628293042053316608 0 4613937818241073152
+    ∷ root 4611686018427387904 0 4608352999143469706
     ∷ root 4620130267728707584 0 4611494317397633365
     -- 2^-60 and 2^40, and one float outside each
     ∷ root 4336966441157787648 0 4517110426252607488

@@ -25,6 +25,7 @@ pub record Largest (x r : Float) : Type 0 where
   pub under : T (le (cube r) x)
   pub most : (y : Float) → T (fits binary64 y) → T (le (cube y) x) → T (le y r)
 
+-- +0. 01 'CUBIC (001)'
 abbrev pub nought : Float
 nought = fin false 0 (pos 0)
 

@@ -47,6 +47,6 @@ truncatedOf x = toUnsigned 64 x
 abbrev pub floatOf : ℕ → Float
 floatOf n = ofInt binary64 (pos n)
 
--- seconds = whole seconds + rest / 1e9. 01 'CUBIC (001)'
+-- seconds = whole seconds + rest / 1e9, which is 0x41cd_cd65_0000_0000. 01 'CUBIC (001)'
 unfoldable pub secondsOf : Span → Float
 secondsOf s = add binary64 (floatOf (s .0 / 1000000000)) (div binary64 (floatOf (s .0 % 1000000000)) (ofBits binary64 0x41cd_cd65_0000_0000))

@@ -12,13 +12,14 @@ use Rattle.arith.specs.declared.time.SpanSum.the-variants.{SpanOf, TooLo
 use Rattle.arith.specs.declared.time.MomentSum.{MomentSum}
 use Rattle.arith.specs.declared.time.MomentSum.the-variants.{MomentOf, TooLate}
 
--- so many nanoseconds of length, and of the clock
+-- so many whole nanoseconds, of length and of the clock. 01 'The stage numbers'
 abbrev pub span : ℕ → Span
 span n = record { 0 = n }
 
 abbrev pub moment : ℕ → Moment
 moment n = record { 0 = n }
 
+-- a number of nanoseconds read as either kind; past 2^53-1 it is neither. 01 'The stage numbers', refusal 7
 abbrev pub asSpan : Sum → SpanSum
 asSpan (Fine n) = SpanOf (span n)
 asSpan Over = TooLong
@@ -37,13 +38,15 @@ scaledOf k s = asSpan (timesOf k (s .0))
 unfoldable pub laterOf : Moment → Span → MomentSum
 laterOf m s = asMoment (sumOf (m .0) (s .0))
 
--- from the second moment to the first, 0 where that is before it: the Rust's saturating_duration_since
+-- from the second moment to the first, 0 where that is before it: 000's saturating_duration_since
 abbrev pub sinceOf : Moment → Moment → Span
 sinceOf m earlier = span (m .0 - earlier .0)
 
+-- max(latest, smoothed), max(4·rttvar, granularity). 01 'Lost or not', 'Timer and PTO (000)'
 abbrev pub longerOf : Span → Span → Span
 longerOf a b = span (max (a .0) (b .0))
 
+-- the smallest sample, the delay capped. 01 'RTT (002)'
 abbrev pub shorterOf : Span → Span → Span
 shorterOf a b = span (min (a .0) (b .0))
 

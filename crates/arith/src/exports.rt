@@ -1,10 +1,10 @@
 // The crate's functions under plain names, on numbers alone, for programs in other languages.
-use crate::root::cube_root;
 use crate::root::Root;
+use crate::root::cube_root;
+use crate::round::TimeThreshold;
 use crate::round::rounded_product;
 use crate::round::seconds_of;
 use crate::round::truncated;
-use crate::round::TimeThreshold;
 use crate::time::Span;
 use crate::time::SpanSum;
 ghost use mathlib.Core.Path.{_≡_};
@@ -38,7 +38,11 @@ pub extern "C" fn skavvilet_cube_root_refusal(x: f64) -> u8
 fn threshold(spurious: bool) -> TimeThreshold
     ensures { λ r. ⌜ r ≡ thresholdOf spurious ⌝ }
 {
-    if spurious { TimeThreshold::FiveFourths } else { TimeThreshold::NineEighths }
+    if spurious {
+        TimeThreshold::FiveFourths
+    } else {
+        TimeThreshold::NineEighths
+    }
 }
 
 // The nanoseconds of a loss delay, and 0 where it is refused.

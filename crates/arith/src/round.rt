@@ -7,6 +7,9 @@ ghost use Rattle.arith.specs.Whole.{within};
 ghost use Rattle.arith.specs.Time.{asSpan};
 ghost use Rattle.arith.specs.Round.{Small, nearest, productOf, truncatedOf, floatOf, secondsOf};
 
+// Nanoseconds in a second.
+const SECOND: u64 = 1000000000;
+
 // 9/8 at first, 5/4 once a loss proved spurious.
 pub enum TimeThreshold {
     NineEighths,
@@ -23,7 +26,7 @@ pub fn rounded_product(s: Span, t: TimeThreshold) -> SpanSum
     }
 }
 
-// x times num / den as a span, rounded: the one place where a delay is.
+// x times num / den as a span. A delay is rounded here and nowhere else.
 fn rounded(num: u64, den: u64, x: u64) -> SpanSum
     requires { ⌜ Small num den ⌝ }
     ensures { λ r. ⌜ r ≡ asSpan (within (nearest num den x)) ⌝ }
@@ -39,7 +42,7 @@ fn rounded(num: u64, den: u64, x: u64) -> SpanSum
     SpanSum::SpanOf(Span(ns))
 }
 
-// The whole part of x, as the Rust's `as usize` has it: 0 for a NaN or below 0, 2^64-1 from there on.
+// The whole part of x, as the Rust's `as usize` has it: 0 for a NaN or below 0, 2^64-1 for what passes it.
 pub fn truncated(x: f64) -> u64
     ensures { λ r. ⌜ r ≡ truncatedOf x ⌝ }
 {
@@ -47,7 +50,7 @@ pub fn truncated(x: f64) -> u64
         if x < 18446744073709551616.0 {
             return std::num::truncating_f64_to_u64(x);
         }
-        return 18446744073709551615;
+        return u64::MAX;
     }
     0
 }
@@ -63,5 +66,5 @@ pub fn float_of(n: u64) -> f64
 pub fn seconds_of(s: Span) -> f64
     ensures { λ r. ⌜ r ≡ secondsOf s ⌝ }
 {
-    float_of(s.0 / 1000000000) + float_of(s.0 % 1000000000) / 1000000000.0
+    float_of(s.0 / SECOND) + float_of(s.0 % SECOND) / 1e9
 }

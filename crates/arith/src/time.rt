@@ -14,7 +14,7 @@ pub struct Moment(pub u64);
 // A length of time, in nanoseconds.
 pub struct Span(pub u64);
 
-// A whole number up to LIMIT, or that it passed LIMIT.
+// A whole number up to LIMIT, or that it passed LIMIT; so for spans and moments below.
 pub enum Sum {
     Fine(u64),
     Over,
@@ -55,12 +55,14 @@ pub fn multiply(a: u64, b: u64) -> Sum
     Sum::Over
 }
 
+// The lesser of a and b.
 pub fn lesser(a: u64, b: u64) -> u64
     ensures { λ r. ⌜ r ≡ min a b ⌝ }
 {
     if a <= b { a } else { b }
 }
 
+// The greater of a and b.
 pub fn greater(a: u64, b: u64) -> u64
     ensures { λ r. ⌜ r ≡ max a b ⌝ }
 {
@@ -94,6 +96,7 @@ pub fn as_moment(n: Sum) -> MomentSum
     }
 }
 
+// a and then b.
 pub fn add_spans(a: Span, b: Span) -> SpanSum
     ensures { λ r. ⌜ r ≡ spanSumOf a b ⌝ }
 {
@@ -114,19 +117,25 @@ pub fn later(m: Moment, s: Span) -> MomentSum
     as_moment(add_up(m.0, s.0))
 }
 
-// The time from earlier to m, and 0 where m is before it.
+// The time from earlier to m, and 0 where m is before it, as the Rust's saturating_duration_since.
 pub fn since(m: Moment, earlier: Moment) -> Span
     ensures { λ r. ⌜ r ≡ sinceOf m earlier ⌝ }
 {
-    if earlier.0 <= m.0 { Span(m.0 - earlier.0) } else { Span(0) }
+    if earlier.0 <= m.0 {
+        Span(m.0 - earlier.0)
+    } else {
+        Span(0)
+    }
 }
 
+// The longer of two spans.
 pub fn longer(a: Span, b: Span) -> Span
     ensures { λ r. ⌜ r ≡ longerOf a b ⌝ }
 {
     Span(greater(a.0, b.0))
 }
 
+// The shorter of two spans.
 pub fn shorter(a: Span, b: Span) -> Span
     ensures { λ r. ⌜ r ≡ shorterOf a b ⌝ }
 {

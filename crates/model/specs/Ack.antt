@@ -41,16 +41,26 @@ distanceBy Missing largest number = Is (largest - number + 1)
 abbrev pub meetLost : ℕ → Sent → Met → Met
 meetLost largest r m =
     record {
-      queue = m .queue; newly = m .newly; ackedBytes = m .ackedBytes; inFlight = m .inFlight;
+      queue = m .queue;
+      newly = m .newly;
+      ackedBytes = m .ackedBytes;
+      inFlight = m .inFlight;
       spurious = m .spurious + 1;
       distance = distanceBy (m .distance) largest (r .number);
-      spuriousInFlight = m .spuriousInFlight || r .«in_flight» }
+      spuriousInFlight = m .spuriousInFlight || r .«in_flight»;
+    }
 
 abbrev pub newlyMet : Sent → Met → List ℕ → ℕ → ℕ → Met
 newlyMet r m queue bytes inFlight =
     record {
-      queue = queue; newly = m .newly ++ (r ∷ []); ackedBytes = bytes; inFlight = inFlight;
-      spurious = m .spurious; distance = m .distance; spuriousInFlight = m .spuriousInFlight }
+      queue = queue;
+      newly = m .newly ++ (r ∷ []);
+      ackedBytes = bytes;
+      inFlight = inFlight;
+      spurious = m .spurious;
+      distance = m .distance;
+      spuriousInFlight = m .spuriousInFlight;
+    }
 
 -- else: mark acked, queue its handle unless 0, and if in flight add its size to acked bytes and take it from the in-flight count
 abbrev pub meetStanding : Sent → Met → Result Met

@@ -54,19 +54,32 @@ withShared s c = record { initial = c .initial; handshake = c .handshake; applic
 unfoldable pub factsOf : Moment → HandshakeStatus → Connection → TimerFacts
 factsOf now status c =
     record {
-      now = now; status = status; rtt = c .shared .rtt; «pto_count» = c .shared .«pto_count»; «bytes_in_flight» = c .shared .«bytes_in_flight»;
-      initial = c .initial .epoch; handshake = c .handshake .epoch; application = c .application .epoch }
+      now = now;
+      status = status;
+      rtt = c .shared .rtt;
+      «pto_count» = c .shared .«pto_count»;
+      «bytes_in_flight» = c .shared .«bytes_in_flight»;
+      initial = c .initial .epoch;
+      handshake = c .handshake .epoch;
+      application = c .application .epoch;
+    }
 
 abbrev pub withTimer : Time → Shared → Shared
 withTimer t s =
     record {
-      clock = s .clock; «loss_timer» = t; «pto_count» = s .«pto_count»; rtt = s .rtt; reordering = s .reordering;
-      «bytes_in_flight» = s .«bytes_in_flight»; «max_datagram_size» = s .«max_datagram_size»;
-      «outstanding_non_ack_eliciting» = s .«outstanding_non_ack_eliciting»; congestion = s .congestion }
+      clock = s .clock;
+      «loss_timer» = t;
+      «pto_count» = s .«pto_count»;
+      rtt = s .rtt;
+      reordering = s .reordering;
+      «bytes_in_flight» = s .«bytes_in_flight»;
+      «max_datagram_size» = s .«max_datagram_size»;
+      «outstanding_non_ack_eliciting» = s .«outstanding_non_ack_eliciting»;
+      congestion = s .congestion;
+    }
 
 -- sets the timer
 unfoldable pub timed : Moment → HandshakeStatus → Connection → Result Connection
-unfolding factsOf timerOf
 timed now status c = then (timerOf (factsOf now status c)) λ t. accepted (withShared (withTimer t (c .shared)) c)
 
 -- sizes of those in flight and neither acked nor lost
@@ -79,23 +92,32 @@ outstanding (r ∷ l) = cond (r .«in_flight» && standing r) (r .size + outstan
 unfoldable pub epochFresh : Epoch
 epochFresh =
     record {
-      «time_of_last_ack_eliciting_packet» = Unset; «largest_acked_packet» = Missing; «loss_time» = Unset;
-      «loss_probes» = 0; «in_flight_count» = 0; «largest_sent_packet» = Missing }
+      «time_of_last_ack_eliciting_packet» = Unset;
+      «largest_acked_packet» = Missing;
+      «loss_time» = Unset;
+      «loss_probes» = 0;
+      «in_flight_count» = 0;
+      «largest_sent_packet» = Missing;
+    }
 
 unfoldable pub spaceFresh : Space
-unfolding epochFresh
 spaceFresh = record { records = []; ackedFrames = []; lostFramesAck = []; lostFramesPto = []; epoch = epochFresh }
 
 -- packet threshold 3, time threshold 9/8
 unfoldable pub sharedFresh : Settings → Shared
-unfolding rttFresh congestionFresh
 sharedFresh s =
     record {
-      clock = moment 0; «loss_timer» = Unset; «pto_count» = 0; rtt = rttFresh s;
+      clock = moment 0;
+      «loss_timer» = Unset;
+      «pto_count» = 0;
+      rtt = rttFresh s;
       reordering = record { «pkt_thresh» = 3; «time_thresh» = NineEighths; «lost_spurious_count» = 0 };
-      «bytes_in_flight» = 0; «max_datagram_size» = s .«max_datagram_size»; «outstanding_non_ack_eliciting» = 0; congestion = congestionFresh s }
+      «bytes_in_flight» = 0;
+      «max_datagram_size» = s .«max_datagram_size»;
+      «outstanding_non_ack_eliciting» = 0;
+      congestion = congestionFresh s;
+    }
 
 -- refusal 2: a setting outside its range
 unfoldable pub fresh : Settings → Result Connection
-unfolding areSettings spaceFresh sharedFresh
 fresh s = must (areSettings s) Domain (accepted (record { initial = spaceFresh; handshake = spaceFresh; application = spaceFresh; shared = sharedFresh s }))

@@ -90,7 +90,8 @@ checkpoint g =
       «w_max» = g .cubic .«w_max»;
       k = g .cubic .k;
       «epoch_start» = g .«congestion_recovery_start_time»;
-      «lost_count» = g .«lost_count» }
+      «lost_count» = g .«lost_count»;
+    }
 
 -- turned down if the checkpoint's window is below its threshold, or the present window is not below the checkpoint's
 unfoldable pub rollsBack : Congestion → Bool
@@ -106,10 +107,16 @@ rolledBack g =
       «congestion_recovery_start_time» = g .prior .«epoch_start»;
       «lost_count» = g .«lost_count»;
       cubic = record {
-        k = g .prior .k; «w_max» = g .prior .«w_max»; «w_est» = g .cubic .«w_est»; «alpha_aimd» = g .cubic .«alpha_aimd»; «cwnd_inc» = g .cubic .«cwnd_inc» };
+        k = g .prior .k;
+        «w_max» = g .prior .«w_max»;
+        «w_est» = g .cubic .«w_est»;
+        «alpha_aimd» = g .cubic .«alpha_aimd»;
+        «cwnd_inc» = g .cubic .«cwnd_inc»;
+      };
       prior = g .prior;
       «max_datagram_size» = g .«max_datagram_size»;
-      «initial_window_packets» = g .«initial_window_packets» }
+      «initial_window_packets» = g .«initial_window_packets»;
+    }
 
 -- one turned down changes nothing
 unfoldable pub rollback : Congestion → Congestion
@@ -151,7 +158,8 @@ reduce now g =
       cubic = record { k = k; «w_max» = wMax; «w_est» = floatOf window; «alpha_aimd» = alphaAimd; «cwnd_inc» = timesBeta (g .cubic .«cwnd_inc») };
       prior = checkpoint g;
       «max_datagram_size» = g .«max_datagram_size»;
-      «initial_window_packets» = g .«initial_window_packets» })
+      «initial_window_packets» = g .«initial_window_packets»;
+    })
 
 -- a loss not in recovery checkpoints, then reduces; this alone begins a recovery period. `sent` is when the packet that decides was sent
 unfoldable pub congestionEvent : Moment → Moment → Congestion → Result Congestion
@@ -172,7 +180,8 @@ countLost n g =
       cubic = g .cubic;
       prior = g .prior;
       «max_datagram_size» = g .«max_datagram_size»;
-      «initial_window_packets» = g .«initial_window_packets» })
+      «initial_window_packets» = g .«initial_window_packets»;
+    })
 
 -- ---- growth
 
@@ -187,7 +196,8 @@ grown g window slowStartBytes start cubic =
       cubic = cubic;
       prior = g .prior;
       «max_datagram_size» = g .«max_datagram_size»;
-      «initial_window_packets» = g .«initial_window_packets» }
+      «initial_window_packets» = g .«initial_window_packets»;
+    }
 
 -- a whole datagram of bytes that wait moves the window on by one: the window and what still waits
 abbrev pub byDatagram : {A : Type 0} → ℕ → ℕ → ℕ → (ℕ → ℕ → Result A) → Result A
@@ -294,7 +304,8 @@ congestionFresh s =
       cubic = record { k = nought; «w_max» = nought; «w_est» = nought; «alpha_aimd» = nought; «cwnd_inc» = 0 };
       prior = record { «congestion_window» = 0; ssthresh = 0; «w_max» = nought; k = nought; «epoch_start» = Unset; «lost_count» = 0 };
       «max_datagram_size» = s .«max_datagram_size»;
-      «initial_window_packets» = s .«initial_window_packets» }
+      «initial_window_packets» = s .«initial_window_packets»;
+    }
 
 -- a size change sets the window to new size × initial packets if it was old size × initial packets; CUBIC's size stays
 unfoldable pub resized : ℕ → ℕ → Congestion → Result Congestion

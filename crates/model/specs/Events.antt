@@ -48,7 +48,6 @@ isNewer (Is last) n = ltb last n
 
 -- refusal 2: space, size or number outside its range; a PMTUD probe not in flight
 unfoldable pub isPacket : ℕ → Packet → Bool
-unfolding isSize
 isPacket n p = isSpace n && (isSize (p .size) && (isNumber (p .number) && (not (p .«is_pmtud_probe») || p .«in_flight»)))
 
 -- the run of non-eliciting packets; refusal 7: its count
@@ -60,24 +59,39 @@ abbrev pub epochSent : Moment → Packet → ℕ → Epoch → Epoch
 epochSent now p inFlight e =
     record {
       «time_of_last_ack_eliciting_packet» = cond (p .«in_flight» && p .«ack_eliciting») (At now) (e .«time_of_last_ack_eliciting_packet»);
-      «largest_acked_packet» = e .«largest_acked_packet»; «loss_time» = e .«loss_time»; «loss_probes» = e .«loss_probes»;
-      «in_flight_count» = inFlight; «largest_sent_packet» = Is (p .number) }
+      «largest_acked_packet» = e .«largest_acked_packet»;
+      «loss_time» = e .«loss_time»;
+      «loss_probes» = e .«loss_probes»;
+      «in_flight_count» = inFlight;
+      «largest_sent_packet» = Is (p .number);
+    }
 
 abbrev pub spaceSent : Moment → Packet → ℕ → Space → Space
 spaceSent now p inFlight s =
     record {
-      records = s .records ++ (sentNow now p ∷ []); ackedFrames = s .ackedFrames; lostFramesAck = s .lostFramesAck; lostFramesPto = s .lostFramesPto;
-      epoch = epochSent now p inFlight (s .epoch) }
+      records = s .records ++ (sentNow now p ∷ []);
+      ackedFrames = s .ackedFrames;
+      lostFramesAck = s .lostFramesAck;
+      lostFramesPto = s .lostFramesPto;
+      epoch = epochSent now p inFlight (s .epoch);
+    }
 
 abbrev pub sharedSent : Moment → ℕ → ℕ → Shared → Shared
 sharedSent now run bytes s =
     record {
-      clock = now; «loss_timer» = s .«loss_timer»; «pto_count» = s .«pto_count»; rtt = s .rtt; reordering = s .reordering;
-      «bytes_in_flight» = bytes; «max_datagram_size» = s .«max_datagram_size»; «outstanding_non_ack_eliciting» = run; congestion = s .congestion }
+      clock = now;
+      «loss_timer» = s .«loss_timer»;
+      «pto_count» = s .«pto_count»;
+      rtt = s .rtt;
+      reordering = s .reordering;
+      «bytes_in_flight» = bytes;
+      «max_datagram_size» = s .«max_datagram_size»;
+      «outstanding_non_ack_eliciting» = run;
+      congestion = s .congestion;
+    }
 
 -- in flight: the space's count, the bytes and the timer
 unfoldable pub sentInFlight : Moment → ℕ → Packet → HandshakeStatus → ℕ → Connection → Result (Step ℕ)
-unfolding timed spaceAt withSpace
 sentInFlight now n p status run c =
     reach (sumOf (spaceAt n c .epoch .«in_flight_count») 1) λ inFlight.
     reach (sumOf (c .shared .«bytes_in_flight») (p .size)) λ bytes.
@@ -85,18 +99,17 @@ sentInFlight now n p status run c =
     accepted (record { state = d; answer = 0; moves = [] })
 
 unfoldable pub sentAside : Moment → ℕ → Packet → ℕ → Connection → Result (Step ℕ)
-unfolding spaceAt withSpace
 sentAside now n p run c =
     accepted
     (record {
       state = withShared (sharedSent now run (c .shared .«bytes_in_flight») (c .shared))
-        (withSpace n (spaceSent now p (spaceAt n c .epoch .«in_flight_count») (spaceAt n c)) c);
+          (withSpace n (spaceSent now p (spaceAt n c .epoch .«in_flight_count») (spaceAt n c)) c);
       answer = 0;
-      moves = [] })
+      moves = [];
+    })
 
 -- refusal 6: 256 records stand in the space when one is sent
 unfoldable pub onPacketSent : Moment → ℕ → Packet → HandshakeStatus → Connection → Result (Step ℕ)
-unfolding onClock isPacket isNewer sentInFlight sentAside
 onPacketSent now n p status c =
     must (onClock (c .shared .clock) now) Clock
     (must (isPacket n p) Domain
@@ -118,12 +131,16 @@ pub record Detection : Type 0 where
 abbrev pub epochDetected : ℕ → Time → Epoch → Epoch
 epochDetected inFlight lossTime e =
     record {
-      «time_of_last_ack_eliciting_packet» = e .«time_of_last_ack_eliciting_packet»; «largest_acked_packet» = e .«largest_acked_packet»;
-      «loss_time» = lossTime; «loss_probes» = e .«loss_probes»; «in_flight_count» = inFlight; «largest_sent_packet» = e .«largest_sent_packet» }
+      «time_of_last_ack_eliciting_packet» = e .«time_of_last_ack_eliciting_packet»;
+      «largest_acked_packet» = e .«largest_acked_packet»;
+      «loss_time» = lossTime;
+      «loss_probes» = e .«loss_probes»;
+      «in_flight_count» = inFlight;
+      «largest_sent_packet» = e .«largest_sent_packet»;
+    }
 
 -- up to the stored largest; the congestion event, then the lost count; after detection the space is drained
 unfoldable pub detectLostPackets : Moment → Rtt → Reordering → ℕ → Space → Result Detection
-unfolding lossDelay detect drained
 detectLostPackets now rtt o bytes s =
     then (lossDelay rtt (o .«time_thresh»)) λ delay.
     then
@@ -133,12 +150,16 @@ detectLostPackets now rtt o bytes s =
     (record {
       space = record {
         records = drained now (rtt .«smoothed_rtt») (d .records);
-        ackedFrames = s .ackedFrames; lostFramesAck = d .lost .queue; lostFramesPto = s .lostFramesPto;
-        epoch = epochDetected (d .lost .inFlight) (d .lossTime) (s .epoch) };
+        ackedFrames = s .ackedFrames;
+        lostFramesAck = d .lost .queue;
+        lostFramesPto = s .lostFramesPto;
+        epoch = epochDetected (d .lost .inFlight) (d .lossTime) (s .epoch);
+      };
       bytes = bytes - d .lost .bytes - d .lost .probeBytes;
       packets = d .lost .packets;
       lostBytes = d .lost .bytes;
-      moves = loseBy now (d .lost .last) ++ (count (d .lost .packets) ∷ []) })
+      moves = loseBy now (d .lost .last) ++ (count (d .lost .packets) ∷ []);
+    })
 
 -- ---- acknowledgement. 01 'Acknowledgement (000)'
 
@@ -153,7 +174,6 @@ storedLargest old last = max (orZero old) (last .number)
 
 -- 5. RTT sample only if that one is newly acked and some newly acked packet is eliciting
 unfoldable pub sampled : Moment → Span → HandshakeStatus → Number → Sent → List Sent → Rtt → Result Rtt
-unfolding rttUpdate anyEliciting
 sampled now delay status old last newly rtt =
     cond (eqb (last .number) (storedLargest old last) && anyEliciting newly)
     (rttUpdate rtt (sinceOf now (last .«time_sent»)) delay (status .completed))
@@ -162,15 +182,24 @@ sampled now delay status old last newly rtt =
 abbrev pub epochAcked : ℕ → Number → Epoch → Epoch
 epochAcked inFlight largest e =
     record {
-      «time_of_last_ack_eliciting_packet» = e .«time_of_last_ack_eliciting_packet»; «largest_acked_packet» = largest;
-      «loss_time» = e .«loss_time»; «loss_probes» = e .«loss_probes»; «in_flight_count» = inFlight; «largest_sent_packet» = e .«largest_sent_packet» }
+      «time_of_last_ack_eliciting_packet» = e .«time_of_last_ack_eliciting_packet»;
+      «largest_acked_packet» = largest;
+      «loss_time» = e .«loss_time»;
+      «loss_probes» = e .«loss_probes»;
+      «in_flight_count» = inFlight;
+      «largest_sent_packet» = e .«largest_sent_packet»;
+    }
 
 -- the space after steps 1 and 2
 abbrev pub spaceAcked : List Sent → Met → Number → Space → Space
 spaceAcked records m largest s =
     record {
-      records = records; ackedFrames = m .queue; lostFramesAck = s .lostFramesAck; lostFramesPto = s .lostFramesPto;
-      epoch = epochAcked (m .inFlight) largest (s .epoch) }
+      records = records;
+      ackedFrames = m .queue;
+      lostFramesAck = s .lostFramesAck;
+      lostFramesPto = s .lostFramesPto;
+      epoch = epochAcked (m .inFlight) largest (s .epoch);
+    }
 
 abbrev pub outcome : ℕ → ℕ → ℕ → ℕ → OnAckReceivedOutcome
 outcome lostPackets lostBytes ackedBytes spurious =
@@ -178,37 +207,54 @@ outcome lostPackets lostBytes ackedBytes spurious =
 
 -- 4. nothing newly acked: four zeros, even after spurious losses; timer and PTO count stay
 unfoldable pub ackedNothing : Moment → ℕ → List Sent → Met → Reordering → Connection → Result (Step OnAckReceivedOutcome)
-unfolding control spaceAt withSpace
 ackedNothing now n records m o c =
     let moves = forgiveBy (m .spuriousInFlight) in
     then (control moves (c .shared .congestion)) λ g.
     accepted
     (record {
       state = withShared
-        (record {
-          clock = now; «loss_timer» = c .shared .«loss_timer»; «pto_count» = c .shared .«pto_count»; rtt = c .shared .rtt; reordering = o;
-          «bytes_in_flight» = c .shared .«bytes_in_flight»; «max_datagram_size» = c .shared .«max_datagram_size»;
-          «outstanding_non_ack_eliciting» = c .shared .«outstanding_non_ack_eliciting»; congestion = g })
-        (withSpace n (spaceAcked records m (spaceAt n c .epoch .«largest_acked_packet») (spaceAt n c)) c);
+          (record {
+            clock = now;
+            «loss_timer» = c .shared .«loss_timer»;
+            «pto_count» = c .shared .«pto_count»;
+            rtt = c .shared .rtt;
+            reordering = o;
+            «bytes_in_flight» = c .shared .«bytes_in_flight»;
+            «max_datagram_size» = c .shared .«max_datagram_size»;
+            «outstanding_non_ack_eliciting» = c .shared .«outstanding_non_ack_eliciting»;
+            congestion = g;
+          })
+          (withSpace n (spaceAcked records m (spaceAt n c .epoch .«largest_acked_packet») (spaceAt n c)) c);
       answer = outcome 0 0 0 0;
-      moves = moves })
+      moves = moves;
+    })
 
 abbrev pub sharedAcked : Moment → Rtt → Reordering → ℕ → Congestion → Shared → Shared
 sharedAcked now rtt o bytes g s =
     record {
-      clock = now; «loss_timer» = s .«loss_timer»; «pto_count» = 0; rtt = rtt; reordering = o;
-      «bytes_in_flight» = bytes; «max_datagram_size» = s .«max_datagram_size»;
-      «outstanding_non_ack_eliciting» = s .«outstanding_non_ack_eliciting»; congestion = g }
+      clock = now;
+      «loss_timer» = s .«loss_timer»;
+      «pto_count» = 0;
+      rtt = rtt;
+      reordering = o;
+      «bytes_in_flight» = bytes;
+      «max_datagram_size» = s .«max_datagram_size»;
+      «outstanding_non_ack_eliciting» = s .«outstanding_non_ack_eliciting»;
+      congestion = g;
+    }
 
 abbrev pub drainedAgain : Moment → Rtt → Space → Space
 drainedAgain now rtt s =
     record {
       records = drained now (rtt .«smoothed_rtt») (s .records);
-      ackedFrames = s .ackedFrames; lostFramesAck = s .lostFramesAck; lostFramesPto = s .lostFramesPto; epoch = s .epoch }
+      ackedFrames = s .ackedFrames;
+      lostFramesAck = s .lostFramesAck;
+      lostFramesPto = s .lostFramesPto;
+      epoch = s .epoch;
+    }
 
 -- 6. detect losses, then CUBIC per acked packet in order, subtract acked bytes, PTO count 0, timer, drain; `last` is the largest newly acked
 unfoldable pub ackedSome : Moment → ℕ → Span → HandshakeStatus → Bool → List Sent → Met → Sent → Reordering → Connection → Result (Step OnAckReceivedOutcome)
-unfolding sampled detectLostPackets control ackEach timed spaceAt withSpace drained
 ackedSome now n delay status limited records m last o c =
     let old = spaceAt n c .epoch .«largest_acked_packet» in
     then (sampled now delay status old last (m .newly) (c .shared .rtt)) λ rtt.
@@ -220,30 +266,35 @@ ackedSome now n delay status limited records m last o c =
     (record {
       state = withSpace n (drainedAgain now rtt (spaceAt n e)) e;
       answer = outcome (d .packets) (d .lostBytes) (m .ackedBytes) (m .spurious);
-      moves = moves })
+      moves = moves;
+    })
 
 -- by the newly acked, the largest of which is the last
 unfoldable pub ackedBy : List Sent → Moment → ℕ → Span → HandshakeStatus → Bool → List Sent → Met → Reordering → Connection → Result (Step OnAckReceivedOutcome)
-unfolding ackedNothing ackedSome
 ackedBy [] now n delay status limited records m o c = ackedNothing now n records m o c
 ackedBy (r ∷ []) now n delay status limited records m o c = ackedSome now n delay status limited records m r o c
 ackedBy (r ∷ (s ∷ l)) now n delay status limited records m o c = ackedBy (s ∷ l) now n delay status limited records m o c
 
 -- 1. the records in the ranges; 2. drain; 3. any spurious
 unfoldable pub acknowledge : Moment → ℕ → List ℕ → Span → HandshakeStatus → Bool → Connection → Result (Step OnAckReceivedOutcome)
-unfolding largestFor covered meetAll drained reordered ackedBy spaceAt
 acknowledge now n words delay status limited c =
     let s = spaceAt n c in
     then
     (meetAll (largestFor (s .epoch .«largest_acked_packet») words) (covered words (s .records)) (s .records)
     (record {
-      queue = s .ackedFrames; newly = []; ackedBytes = 0; inFlight = s .epoch .«in_flight_count»; spurious = 0; distance = Missing; spuriousInFlight = false })) λ a.
+      queue = s .ackedFrames;
+      newly = [];
+      ackedBytes = 0;
+      inFlight = s .epoch .«in_flight_count»;
+      spurious = 0;
+      distance = Missing;
+      spuriousInFlight = false;
+    })) λ a.
     then (reordered (a .met .distance) (a .met .spurious) (c .shared .reordering)) λ o.
     ackedBy (a .met .newly) now n delay status limited (drained now (c .shared .rtt .«smoothed_rtt») (a .records)) (a .met) o c
 
 -- the ack's delay is in microseconds: refusal 7 always, uncapped
 unfoldable pub onAckReceived : Moment → ℕ → List ℕ → ℕ → HandshakeStatus → Bool → Number → Connection → Result (Step OnAckReceivedOutcome)
-unfolding onClock areRanges acknowledge
 onAckReceived now n words delay status limited skipped c =
     must (onClock (c .shared .clock) now) Clock
     (must (isSpace n && isSkipped skipped) Domain
@@ -259,13 +310,19 @@ timeoutOutcome packets bytes = record { «lost_packets» = packets; «lost_bytes
 abbrev pub sharedTimeout : Moment → ℕ → ℕ → Congestion → Shared → Shared
 sharedTimeout now ptoCount bytes g s =
     record {
-      clock = now; «loss_timer» = s .«loss_timer»; «pto_count» = ptoCount; rtt = s .rtt; reordering = s .reordering;
-      «bytes_in_flight» = bytes; «max_datagram_size» = s .«max_datagram_size»;
-      «outstanding_non_ack_eliciting» = s .«outstanding_non_ack_eliciting»; congestion = g }
+      clock = now;
+      «loss_timer» = s .«loss_timer»;
+      «pto_count» = ptoCount;
+      rtt = s .rtt;
+      reordering = s .reordering;
+      «bytes_in_flight» = bytes;
+      «max_datagram_size» = s .«max_datagram_size»;
+      «outstanding_non_ack_eliciting» = s .«outstanding_non_ack_eliciting»;
+      congestion = g;
+    }
 
 -- a timeout with a loss time detects losses in its space, then sets the timer
 unfoldable pub timeoutLoss : Moment → ℕ → HandshakeStatus → Connection → Result (Step OnLossDetectionTimeoutOutcome)
-unfolding detectLostPackets control timed spaceAt withSpace
 timeoutLoss now n status c =
     then (detectLostPackets now (c .shared .rtt) (c .shared .reordering) (c .shared .«bytes_in_flight») (spaceAt n c)) λ d.
     then (control (d .moves) (c .shared .congestion)) λ g.
@@ -278,7 +335,6 @@ reachCount n k = cond (leb n 4294967295) (k n) (refused TooLarge)
 
 -- if its PTO queue is empty, it queues handles of that many oldest data packets
 unfoldable pub probeQueue : ℕ → Space → Result (List ℕ)
-unfolding probeHandles
 probeQueue probes s = by (s .lostFramesPto)
   where
     by : List ℕ → Result (List ℕ)
@@ -288,15 +344,22 @@ probeQueue probes s = by (s .lostFramesPto)
 abbrev pub spaceProbed : ℕ → List ℕ → Space → Space
 spaceProbed probes q s =
     record {
-      records = s .records; ackedFrames = s .ackedFrames; lostFramesAck = s .lostFramesAck; lostFramesPto = q;
+      records = s .records;
+      ackedFrames = s .ackedFrames;
+      lostFramesAck = s .lostFramesAck;
+      lostFramesPto = q;
       epoch = record {
-        «time_of_last_ack_eliciting_packet» = s .epoch .«time_of_last_ack_eliciting_packet»; «largest_acked_packet» = s .epoch .«largest_acked_packet»;
-        «loss_time» = s .epoch .«loss_time»; «loss_probes» = probes; «in_flight_count» = s .epoch .«in_flight_count»;
-        «largest_sent_packet» = s .epoch .«largest_sent_packet» } }
+        «time_of_last_ack_eliciting_packet» = s .epoch .«time_of_last_ack_eliciting_packet»;
+        «largest_acked_packet» = s .epoch .«largest_acked_packet»;
+        «loss_time» = s .epoch .«loss_time»;
+        «loss_probes» = probes;
+        «in_flight_count» = s .epoch .«in_flight_count»;
+        «largest_sent_packet» = s .epoch .«largest_sent_packet»;
+      };
+    }
 
 -- one without raises the PTO count and grants min(count, 2) probes to the chosen space, then sets the timer
 unfoldable pub timeoutProbe : Moment → HandshakeStatus → Connection → Result (Step OnLossDetectionTimeoutOutcome)
-unfolding factsOf probeSpace probeQueue timed spaceAt withSpace
 timeoutProbe now status c =
     then (probeSpace (factsOf now status c)) λ n.
     reachCount (c .shared .«pto_count» + 1) λ ptoCount.
@@ -309,12 +372,10 @@ timeoutProbe now status c =
     accepted (record { state = e; answer = timeoutOutcome 0 0; moves = [] })
 
 unfoldable pub timeoutBy : Time → ℕ → Moment → HandshakeStatus → Connection → Result (Step OnLossDetectionTimeoutOutcome)
-unfolding timeoutLoss timeoutProbe
 timeoutBy (At t) n now status c = timeoutLoss now n status c
 timeoutBy Unset n now status c = timeoutProbe now status c
 
 unfoldable pub onLossDetectionTimeout : Moment → HandshakeStatus → Connection → Result (Step OnLossDetectionTimeoutOutcome)
-unfolding onClock lossTimeAndSpace timeoutBy
 onLossDetectionTimeout now status c =
     must (onClock (c .shared .clock) now) Clock
     (let earliest = lossTimeAndSpace (c .initial .epoch) (c .handshake .epoch) (c .application .epoch) in
@@ -325,13 +386,21 @@ onLossDetectionTimeout now status c =
 abbrev pub spaceDiscarded : Space → Space
 spaceDiscarded s =
     record {
-      records = []; ackedFrames = []; lostFramesAck = []; lostFramesPto = [];
+      records = [];
+      ackedFrames = [];
+      lostFramesAck = [];
+      lostFramesPto = [];
       epoch = record {
-        «time_of_last_ack_eliciting_packet» = Unset; «largest_acked_packet» = s .epoch .«largest_acked_packet»; «loss_time» = Unset;
-        «loss_probes» = 0; «in_flight_count» = 0; «largest_sent_packet» = s .epoch .«largest_sent_packet» } }
+        «time_of_last_ack_eliciting_packet» = Unset;
+        «largest_acked_packet» = s .epoch .«largest_acked_packet»;
+        «loss_time» = Unset;
+        «loss_probes» = 0;
+        «in_flight_count» = 0;
+        «largest_sent_packet» = s .epoch .«largest_sent_packet»;
+      };
+    }
 
 unfoldable pub onSpaceDiscarded : Moment → ℕ → HandshakeStatus → Connection → Result (Step ℕ)
-unfolding onClock outstanding timed spaceAt withSpace
 onSpaceDiscarded now n status c =
     must (onClock (c .shared .clock) now) Clock
     (must (isSpace n) Domain
@@ -345,7 +414,6 @@ onSpaceDiscarded now n status c =
 -- ---- size change
 
 unfoldable pub onSizeChange : ℕ → Connection → Result (Step ℕ)
-unfolding isDatagramSize control
 onSizeChange size c =
     must (isDatagramSize size) Domain
     (let moves = resize (c .shared .«max_datagram_size») size ∷ [] in
@@ -353,13 +421,21 @@ onSizeChange size c =
     accepted
     (record {
       state = withShared
-        (record {
-          clock = c .shared .clock; «loss_timer» = c .shared .«loss_timer»; «pto_count» = c .shared .«pto_count»; rtt = c .shared .rtt;
-          reordering = c .shared .reordering; «bytes_in_flight» = c .shared .«bytes_in_flight»; «max_datagram_size» = size;
-          «outstanding_non_ack_eliciting» = c .shared .«outstanding_non_ack_eliciting»; congestion = g })
-        c;
+          (record {
+            clock = c .shared .clock;
+            «loss_timer» = c .shared .«loss_timer»;
+            «pto_count» = c .shared .«pto_count»;
+            rtt = c .shared .rtt;
+            reordering = c .shared .reordering;
+            «bytes_in_flight» = c .shared .«bytes_in_flight»;
+            «max_datagram_size» = size;
+            «outstanding_non_ack_eliciting» = c .shared .«outstanding_non_ack_eliciting»;
+            congestion = g;
+          })
+          c;
       answer = 0;
-      moves = moves }))
+      moves = moves;
+    }))
 
 -- ---- taking handles, and a ping
 
@@ -368,7 +444,6 @@ withQueues acked ack pto s = record { records = s .records; ackedFrames = acked;
 
 -- last in first out; taking from an empty queue yields handle 0
 unfoldable pub nextAckedFrame : ℕ → Connection → Result (Step ℕ)
-unfolding newest rest spaceAt withSpace
 nextAckedFrame n c =
     must (isSpace n) Domain
     (let s = spaceAt n c in
@@ -376,19 +451,16 @@ nextAckedFrame n c =
 
 -- ACK losses before PTO ones
 unfoldable pub takenLost : List ℕ → ℕ → Space → Connection → Step ℕ
-unfolding newest rest withSpace
 takenLost [] n s c =
     record { state = withSpace n (withQueues (s .ackedFrames) [] (rest (s .lostFramesPto)) s) c; answer = newest (s .lostFramesPto); moves = [] }
 takenLost (h ∷ q) n s c =
     record { state = withSpace n (withQueues (s .ackedFrames) (rest (h ∷ q)) (s .lostFramesPto) s) c; answer = newest (h ∷ q); moves = [] }
 
 unfoldable pub nextLostFrame : ℕ → Connection → Result (Step ℕ)
-unfolding takenLost spaceAt
 nextLostFrame n c = must (isSpace n) Domain (accepted (takenLost (spaceAt n c .lostFramesAck) n (spaceAt n c) c))
 
 -- a ping takes one probe, not below 0
 unfoldable pub pingSent : ℕ → Connection → Result (Step ℕ)
-unfolding spaceAt withSpace
 pingSent n c =
     must (isSpace n) Domain
     (let s = spaceAt n c in

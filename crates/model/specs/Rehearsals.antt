@@ -13,16 +13,17 @@ use Rattle.arith.specs.declared.root.Root.the-variants as Root
 use Rattle.arith.specs.declared.round.TimeThreshold.the-variants.{NineEighths}
 use Rattle.arith.specs.declared.time.Moment.{Moment}
 use Rattle.arith.specs.declared.time.Span.{Span}
-use Rattle.model.specs.Numbers.{Result, accepted, refused, then, onClock, areSettings}
+use Rattle.model.specs.Numbers.{Result, accepted, refused, then, onClock, isSize, areSettings}
 use Rattle.model.specs.Rtt.{rttFresh, rttUpdate}
-use Rattle.model.specs.Sent.{sentNow}
-use Rattle.model.specs.Loss.{lossDelay, isLost}
-use Rattle.model.specs.Timer.{ptoOf, lossTimeAndSpace}
+use Rattle.model.specs.Sent.{sentNow, covered, drained}
+use Rattle.model.specs.Loss.{lossDelay, isLost, detect}
+use Rattle.model.specs.Timer.{ptoOf, lossTimeAndSpace, timerOf}
 use Rattle.model.specs.Cubic.{congestionFresh, congestionEvent, countLost, rollback, packetAcked}
-use Rattle.model.specs.Control.{Move, forgive, lose, count, ack, moved, control}
-use Rattle.model.specs.Connection.{Connection, fresh}
-use Rattle.model.specs.Events.{onPacketSent, onAckReceived, isPacket, isNewer}
-use Rattle.model.specs.Ranges.{areRanges}
+use Rattle.model.specs.Control.{Move, forgive, lose, count, ack, moved, control, ackEach}
+use Rattle.model.specs.Connection.{Connection, fresh, spaceFresh, epochFresh, sharedFresh, timed, factsOf, spaceAt, withSpace}
+use Rattle.model.specs.Ack.{meetAll, reordered}
+use Rattle.model.specs.Events.{onPacketSent, sentInFlight, onAckReceived, acknowledge, ackedBy, ackedSome, sampled, anyEliciting, detectLostPackets, isPacket, isNewer}
+use Rattle.model.specs.Ranges.{areRanges, largestFor, lastEnd}
 use Rattle.model.specs.Run.{Event, sent, acked, step, after, run}
 use Rattle.model.specs.declared.Congestion.{Congestion}
 use Rattle.model.specs.declared.Epoch.{Epoch}
@@ -107,11 +108,16 @@ showsFrom (refused n) l window bytes timer = false
 abbrev pub epochWith : Time → Epoch
 epochWith t =
     record {
-      «time_of_last_ack_eliciting_packet» = Unset; «largest_acked_packet» = Missing; «loss_time» = t;
-      «loss_probes» = 0; «in_flight_count» = 0; «largest_sent_packet» = Missing }
+      «time_of_last_ack_eliciting_packet» = Unset;
+      «largest_acked_packet» = Missing;
+      «loss_time» = t;
+      «loss_probes» = 0;
+      «in_flight_count» = 0;
+      «largest_sent_packet» = Missing;
+    }
 
 unfoldable pub right : Row → Bool
-unfolding settings estimate rttFresh ptoOf within sumOf timesOf spanSumOf scaledOf laterOf nearest productOf lossDelay isLost sentNow packet control moved congestionFresh congestionEvent countLost rollback packetAcked lossTimeAndSpace rootOf toBits ofBits add sub mul div ofInt toUnsigned lt le eq secondsOf showsFrom fresh run after step onPacketSent onAckReceived onClock isPacket isNewer areRanges areSettings
+unfolding settings estimate rttFresh ptoOf within sumOf timesOf spanSumOf scaledOf laterOf nearest productOf lossDelay isLost sentNow packet control moved congestionFresh congestionEvent countLost rollback packetAcked lossTimeAndSpace rootOf toBits ofBits add sub mul div ofInt toUnsigned lt le eq secondsOf showsFrom fresh spaceFresh epochFresh sharedFresh run after step onPacketSent sentInFlight onAckReceived acknowledge ackedBy ackedSome sampled anyEliciting detectLostPackets timed factsOf timerOf spaceAt withSpace onClock isPacket isNewer isSize areRanges areSettings largestFor lastEnd covered meetAll reordered drained detect ackEach
 right (estimates l smoothed rttvar pto) =
     withRtt (estimate (rttFresh settings) l) λ r. eqb (r .«smoothed_rtt» .0) smoothed && (eqb (r .rttvar .0) rttvar && isSpan pto (ptoOf r))
 right (delay l d) = withRtt (estimate (rttFresh settings) l) λ r. isSpan d (lossDelay r NineEighths)

@@ -19,7 +19,8 @@ rttFresh s =
       «smoothed_rtt» = s .«initial_rtt»;
       rttvar = span (s .«initial_rtt» .0 / 2);
       «has_first_rtt_sample» = false;
-      «max_ack_delay» = s .«max_ack_delay» }
+      «max_ack_delay» = s .«max_ack_delay»;
+    }
 
 -- first sample L: smoothed = min = max = L, rttvar = L/2. RFC 9002 section 5.3
 unfoldable pub rttFirst : Rtt → Span → Rtt
@@ -31,7 +32,8 @@ rttFirst r l =
       «smoothed_rtt» = l;
       rttvar = span (l .0 / 2);
       «has_first_rtt_sample» = true;
-      «max_ack_delay» = r .«max_ack_delay» }
+      «max_ack_delay» = r .«max_ack_delay»;
+    }
 
 -- delay capped by max ack delay once completed
 abbrev pub capped : Rtt → Span → Bool → Span
@@ -65,7 +67,8 @@ rttLater r l delay =
       «smoothed_rtt» = span s;
       rttvar = span v;
       «has_first_rtt_sample» = true;
-      «max_ack_delay» = r .«max_ack_delay» })
+      «max_ack_delay» = r .«max_ack_delay»;
+    })
 
 -- the estimates after a sample L with an ack delay
 unfoldable pub rttUpdate : Rtt → Span → Span → Bool → Result Rtt

@@ -56,10 +56,8 @@ stateBy c (accepted s) = s .state
 stateBy c (refused n) = c
 
 unfoldable pub after : Event → Connection → Connection
-unfolding step
 after e c = stateBy c (step e c)
 
 unfoldable pub run : List Event → Connection → Connection
-unfolding after
 run [] c = c
 run (e ∷ l) c = run l (after e c)

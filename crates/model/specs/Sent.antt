@@ -20,17 +20,33 @@ use Rattle.model.specs.declared.Time.the-variants.{Unset, At}
 unfoldable pub sentNow : Moment → Packet → Sent
 sentNow now p =
     record {
-      number = p .number; «time_sent» = now; size = p .size;
-      «ack_eliciting» = p .«ack_eliciting»; «in_flight» = p .«in_flight»; «has_data» = p .«has_data»; «is_pmtud_probe» = p .«is_pmtud_probe»;
-      handle = p .handle; acked = false; «time_lost» = Unset }
+      number = p .number;
+      «time_sent» = now;
+      size = p .size;
+      «ack_eliciting» = p .«ack_eliciting»;
+      «in_flight» = p .«in_flight»;
+      «has_data» = p .«has_data»;
+      «is_pmtud_probe» = p .«is_pmtud_probe»;
+      handle = p .handle;
+      acked = false;
+      «time_lost» = Unset;
+    }
 
 -- the record with its mark changed: acked, or lost at a moment
 unfoldable pub marked : Sent → Bool → Time → Sent
 marked r acked lost =
     record {
-      number = r .number; «time_sent» = r .«time_sent»; size = r .size;
-      «ack_eliciting» = r .«ack_eliciting»; «in_flight» = r .«in_flight»; «has_data» = r .«has_data»; «is_pmtud_probe» = r .«is_pmtud_probe»;
-      handle = r .handle; acked = acked; «time_lost» = lost }
+      number = r .number;
+      «time_sent» = r .«time_sent»;
+      size = r .size;
+      «ack_eliciting» = r .«ack_eliciting»;
+      «in_flight» = r .«in_flight»;
+      «has_data» = r .«has_data»;
+      «is_pmtud_probe» = r .«is_pmtud_probe»;
+      handle = r .handle;
+      acked = acked;
+      «time_lost» = lost;
+    }
 
 -- neither acked nor lost
 abbrev pub standing : Sent → Bool

@@ -1,5 +1,5 @@
 -- Products cut at 2^26 and 2^52. K is 2^26, 4503599627370496 is 2^52, 20282409603651670423947251286016 is 2^104. Assumes nothing.
-use mathlib.Core.Path.{_≡_, refl, sym, ap, _∙_, subst}
+use mathlib.Core.Path.{_≡_, sym, ap, _∙_, subst}
 use Prim.Native.Nat.{ℕ, _+_, _*_, _/_, _%_, _≤_, _<_}
 use native.Mathlib.Nat.{mul-le-mul, mul-le-mul-right, mul-lt-mul-of-pos-right, div-add-mod'}
 use mathlib.Core.Bool.{true, false}

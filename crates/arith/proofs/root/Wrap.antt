@@ -1,24 +1,22 @@
 -- From the whole root to the float: what a pattern's fields stand for, and that the float so written is the largest whose exact cube is at most the argument. Assumes nothing.
 use mathlib.Core.Path.{_≡_, refl, sym, ap, _∙_, subst}
-use mathlib.Core.Logic.{_⊎_, inl, inr}
 use Prim.Native.Nat.{ℕ, zero, suc, _+_, _-_, _*_, _/_, _%_, _^_, _≤_, _<_, zero-le}
-use native.Mathlib.Nat.{le-trans, le-of-eq, le-of-lt, lt-of-lt-of-le, lt-of-le-of-lt, lt-irrefl, not-le-of-lt, mul-assoc, mul-comm, mul-left-comm, mul-one, one-mul, mul-right-comm, mul-le-mul, mul-le-mul-right, mul-le-mul-left, mul-lt-mul-of-pos-right, le-of-mul-le-mul-right, mul-pos, le-antisymm}
+use native.Mathlib.Nat.{le-trans, le-of-eq, lt-of-lt-of-le, mul-assoc, mul-one, mul-le-mul-right, le-of-mul-le-mul-right, mul-pos}
 use native.Mathlib.Omega.{arith}
-use mathlib.Core.Bool.{Bool, true, false, not, _&&_, _||_, cond, true≢false}
+use mathlib.Core.Bool.{Bool, true, false, not, _&&_, _||_, cond}
 use lib.IntN.{ℤ, pos, negsuc}
 use lib.Dec.{T, leb, ltb, eqb, nleb→lt, eqb→eq, ltb→lt, lt→ltb, leb→le, lit<, lit≤}
 use borrow.Author.Tests.{lt-leb}
 use lib.Pow.{pow-add, pow-pos}
-use lib.Ieee.{Float, nan, inf, fin, binary64, prec, emax, low, up, down, odd, fits, isNan, nanBits, ofFields, ofBits, toBits, le, lt, eq}
+use lib.Ieee.{Float, nan, inf, fin, binary64, up, down, odd, fits, isNan, nanBits, ofFields, ofBits, toBits, le}
 use lib.Ieee.Fits.{and-l, and-r, up-pos, down-pos}
 use lib.Ieee.Exact.{HasValue, odd-sign}
-use lib.Ieee.Bits.{ofBits-toBits, toBits-lt, ofBits-fits, is-true, is-false, nanBits-is}
-use lib.Ieee.Nearest.{div-same}
+use lib.Ieee.Bits.{ofBits-toBits, ofBits-fits, nanBits-is}
 use lib.Ieee.Order.{le-of-values}
-use lib.Ieee.Positive.{num, den, positive, den-pos, own-value, value→cross, positive-of-value, value-pos, le→cross, values-of-le, above, above-of-le, between}
+use lib.Ieee.Positive.{positive, positive-of-value, values-of-le, between}
 use Rattle.arith.specs.Root.{WholeRoot}
 use Rattle.arith.specs.Root.{thrice, cube, Largest, least, greatest}
-use Rattle.arith.proofs.root.Units.{either, pow-le-back, under-it, none-above, exponents, at-least, at-most, Shifted, shifted}
+use Rattle.arith.proofs.root.Units.{pow-le-back, under-it, none-above, exponents, at-least, at-most, shifted}
 
 -- ---- the exact cube of a / c is a^3 / c^3
 up-thrice : (e : ℤ) → up (thrice e) ≡ up e * up e * up e

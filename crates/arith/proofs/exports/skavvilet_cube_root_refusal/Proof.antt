@@ -1,28 +1,21 @@
+-- `arith::exports::skavvilet_cube_root_refusal` meets its contract. What `cube_root` ensures is the value of `rootOf`. Assumes nothing.
 use Rattle.arith.proofs.Answer.{root-is}
 use borrow.Author.Needs.{needs}
 use Rattle.arith.proofs.exports.skavvilet_cube_root_refusal.Statement.{statement}
 use Rattle.arith.proofs.exports.skavvilet_cube_root_refusal.Tie as tie
-use Rattle.arith.proofs.exports.skavvilet_cube_root_refusal.Reads as reads
-use Rattle.arith.proofs.exports.skavvilet_cube_root_refusal.Lts as lts
-use Rattle.arith.proofs.root.cube_root.Reads as cube-root-reads
 
--- src/exports.rt:32:11
 cube-root-requires : tie.Need-cube-root-requires
 cube-root-requires c κs = search needs
 
--- src/exports.rt:33:24
 enum-told : tie.Need-enum-told
 enum-told c = search needs
 
--- src/exports.rt:34:23
 enum-known-n : tie.Need-enum-known-n
 enum-known-n c = search needs
 
--- src/exports.rt:28:1
 returns : tie.Need-returns
 returns c = rw (← root-is (c .before .before .cube-root .ensures), c .enum-told .given .1)
 
--- src/exports.rt:28:1
 returns-2 : tie.Need-returns-2
 returns-2 c = rw (← root-is (c .before .before .before .cube-root .ensures), c .before .n .given .1)
 

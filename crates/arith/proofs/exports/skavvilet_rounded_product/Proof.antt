@@ -1,32 +1,23 @@
+-- `arith::exports::skavvilet_rounded_product` meets its contract. What its two callees ensure. Assumes nothing.
 use borrow.Author.Needs.{needs}
 use Rattle.arith.proofs.exports.skavvilet_rounded_product.Statement.{statement}
 use Rattle.arith.proofs.exports.skavvilet_rounded_product.Tie as tie
-use Rattle.arith.proofs.exports.skavvilet_rounded_product.Reads as reads
-use Rattle.arith.proofs.exports.skavvilet_rounded_product.Lts as lts
-use Rattle.arith.proofs.exports.threshold.Reads as threshold-reads
-use Rattle.arith.proofs.round.rounded_product.Reads as rounded-product-reads
 
--- src/exports.rt:49:37
 threshold-requires : tie.Need-threshold-requires
 threshold-requires c κs = search needs
 
--- src/exports.rt:49:11
 rounded-product-requires : tie.Need-rounded-product-requires
 rounded-product-requires c κs = search needs
 
--- src/exports.rt:50:25
 enum-known-s : tie.Need-enum-known-s
 enum-known-s c = search needs
 
--- src/exports.rt:51:29
 enum-told : tie.Need-enum-told
 enum-told c = search needs
 
--- src/exports.rt:45:1
 returns : tie.Need-returns
 returns c = rw (← c .before .before .before .before .threshold .ensures, ← c .before .before .before .rounded-product .ensures, c .before .s .given .1)
 
--- src/exports.rt:45:1
 returns-2 : tie.Need-returns-2
 returns-2 c = rw (← c .before .before .before .threshold .ensures, ← c .before .before .rounded-product .ensures, c .enum-told .given .1)
 

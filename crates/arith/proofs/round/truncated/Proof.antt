@@ -1,3 +1,4 @@
+-- `arith::round::truncated` meets its contract. The two tests are what the truncation asks; outside them the whole part is one of the two ends. Assumes nothing.
 use mathlib.Core.Path.{sym, subst}
 use lib.Dec.{T}
 use lib.Ieee.{ofBits, neg}
@@ -5,25 +6,18 @@ use Rattle.arith.proofs.Laws.{past-words, not-above}
 use borrow.Author.Needs.{needs}
 use Rattle.arith.proofs.round.truncated.Statement.{statement}
 use Rattle.arith.proofs.round.truncated.Tie as tie
-use Rattle.arith.proofs.round.truncated.Reads as reads
-use Rattle.arith.proofs.round.truncated.Lts as lts
-use Rattle.std.proofs.num.truncating_f64_to_u64.Reads as truncating-f64-to-u64-reads
 
--- src/round.rt:64:13
 truncating-f64-to-u64-requires : tie.Need-truncating-f64-to-u64-requires
 unfolding ofBits neg
 truncating-f64-to-u64-requires c κs = (subst T (sym (c .before .if1 .taken)) tt, subst T (sym (c .if2 .taken)) tt)
 
--- src/round.rt:64:13
 returns : tie.Need-returns
 returns c = search needs
 
--- src/round.rt:66:9
 returns-2 : tie.Need-returns-2
 unfolding ofBits neg
 returns-2 c = past-words _ (c .before .if1 .taken) (c .if2 .left)
 
--- src/round.rt:59:1
 returns-3 : tie.Need-returns-3
 unfolding ofBits neg
 returns-3 c = not-above _ (c .if1 .left)

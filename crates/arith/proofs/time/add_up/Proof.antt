@@ -1,25 +1,20 @@
-use mathlib.Core.Path.{_≡_, refl, sym, ap, _∙_}
+-- `arith::time::add_up` meets its contract. Each return is a law of the sum: the test before it shows on which side of the limit the sum lies. Assumes nothing.
+use mathlib.Core.Path.{sym}
 use native.Mathlib.Omega.{arith}
 use Rattle.arith.proofs.Laws.{sum-fine, sum-over}
 use borrow.Author.Needs.{needs}
 use Rattle.arith.proofs.time.add_up.Statement.{statement}
 use Rattle.arith.proofs.time.add_up.Tie as tie
-use Rattle.arith.proofs.time.add_up.Reads as reads
-use Rattle.arith.proofs.time.add_up.Lts as lts
 
--- src/time.rt:39:30
 add-t6 : tie.Need-add-t6
 add-t6 c = search needs
 
--- src/time.rt:39:13
 returns : tie.Need-returns
 returns c = sym (sum-fine _ _ (omega arith))
 
--- src/time.rt:34:1
 returns-2 : tie.Need-returns-2
 returns-2 c = sym (sum-over _ _ (omega arith))
 
--- src/time.rt:34:1
 returns-3 : tie.Need-returns-3
 returns-3 c = sym (sum-over _ _ (omega arith))
 

@@ -1,22 +1,17 @@
+-- `arith::time::as_moment` meets its contract. By the sum's two cases. Assumes nothing.
 use borrow.Author.Needs.{needs}
 use Rattle.arith.proofs.time.as_moment.Statement.{statement}
 use Rattle.arith.proofs.time.as_moment.Tie as tie
-use Rattle.arith.proofs.time.as_moment.Reads as reads
-use Rattle.arith.proofs.time.as_moment.Lts as lts
 
--- src/time.rt:92:19
 enum-known-n : tie.Need-enum-known-n
 enum-known-n c = search needs
 
--- src/time.rt:93:22
 enum-told : tie.Need-enum-told
 enum-told c = search needs
 
--- src/time.rt:88:1
 returns : tie.Need-returns
 returns c = rw (c .before .n .given .1)
 
--- src/time.rt:88:1
 returns-2 : tie.Need-returns-2
 returns-2 c = search needs
 

@@ -1,15 +1,12 @@
+-- `arith::time::passed` meets its contract. m <= now - s is m + s <= now. Assumes nothing.
 use Rattle.arith.proofs.Laws.{moved, not-yet}
-use mathlib.Core.Path.{_≡_, refl, sym, ap, _∙_}
+use mathlib.Core.Path.{sym}
 use Rattle.arith.proofs.time.passed.Statement.{statement}
 use Rattle.arith.proofs.time.passed.Tie as tie
-use Rattle.arith.proofs.time.passed.Reads as reads
-use Rattle.arith.proofs.time.passed.Lts as lts
 
--- src/time.rt:141:9
 returns : tie.Need-returns
 returns c = moved _ _ _ (c .before .before .before .if1 .taken)
 
--- src/time.rt:137:1
 returns-2 : tie.Need-returns-2
 returns-2 c = sym (not-yet _ _ _ (c .if1 .left))
 

@@ -1,15 +1,12 @@
+-- `arith::time::since` meets its contract. A difference that would be negative is 0. Assumes nothing.
 use Rattle.arith.proofs.Laws.{none-since}
 use borrow.Author.Needs.{needs}
 use Rattle.arith.proofs.time.since.Statement.{statement}
 use Rattle.arith.proofs.time.since.Tie as tie
-use Rattle.arith.proofs.time.since.Reads as reads
-use Rattle.arith.proofs.time.since.Lts as lts
 
--- src/time.rt:118:1
 returns : tie.Need-returns
 returns c = search needs
 
--- src/time.rt:118:1
 returns-2 : tie.Need-returns-2
 returns-2 c = none-since _ _ (c .if1 .left)
 
