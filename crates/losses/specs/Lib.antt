@@ -1,0 +1,2 @@
+pub mod Drain
+pub mod Seek

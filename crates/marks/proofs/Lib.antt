@@ -1,0 +1,4 @@
+pub mod Split
+pub mod SplitLoss
+pub mod Lost
+pub mod Rings
