@@ -10,4 +10,6 @@ pub mod Control
 pub mod Connection
 pub mod Events
 pub mod Run
+pub mod History
+pub mod Promises
 pub mod Rehearsals

@@ -1,0 +1,4 @@
+pub mod Peel
+pub mod Moves
+pub mod Events
+pub mod Promises
