@@ -1,0 +1,4 @@
+pub mod Places
+pub mod Cover
+pub mod Fitted
+pub mod Each
