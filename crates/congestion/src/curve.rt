@@ -58,5 +58,9 @@ pub fn w_max_next(window: u64, w_max: f64) -> f64
     ensures { λ r. ⌜ r ≡ cubic.wMaxNext window «w_max» ⌝ }
 {
     let w = float_of(window);
-    if w < w_max { w * ONE_PLUS_BETA / 2.0 } else { w }
+    if w < w_max {
+        w * ONE_PLUS_BETA / 2.0
+    } else {
+        w
+    }
 }

@@ -1,27 +1,27 @@
 // Growth of the window on acked packets, and a size change.
+use crate::Moved;
 use crate::curve::larger;
 use crate::curve::smaller;
 use crate::curve::w_cubic;
 use crate::curve::w_est_inc;
+use crate::recovery::ALPHA_AIMD;
+use crate::recovery::MAX_WINDOW;
 use crate::recovery::in_congestion_recovery;
 use crate::recovery::rolled_back;
 use crate::recovery::rolls_back;
-use crate::recovery::ALPHA_AIMD;
-use crate::recovery::MAX_WINDOW;
-use crate::Moved;
 use arith::round::float_of;
 use arith::round::seconds_of;
 use arith::round::truncated;
+use arith::time::LIMIT;
+use arith::time::Moment;
+use arith::time::Span;
+use arith::time::SpanSum;
+use arith::time::Sum;
 use arith::time::add_spans;
 use arith::time::add_up;
 use arith::time::greater;
 use arith::time::multiply;
 use arith::time::since;
-use arith::time::Moment;
-use arith::time::Span;
-use arith::time::SpanSum;
-use arith::time::Sum;
-use arith::time::LIMIT;
 use model::Congestion;
 use model::Cubic;
 use model::Refusal;
@@ -118,7 +118,8 @@ pub fn slow_start(g: Congestion, acked: u64) -> Moved
     let Sum::Fine(sum) = add_up(g.bytes_acked_sl, acked) else {
         return Moved::Refused(Refusal::TooLarge);
     };
-    let Stepped::To(window, left) = by_datagram(g.max_datagram_size, g.congestion_window, sum) else {
+    let Stepped::To(window, left) = by_datagram(g.max_datagram_size, g.congestion_window, sum)
+    else {
         return Moved::Refused(Refusal::TooLarge);
     };
     Moved::Accepted(grown(g, window, left, start, q))
@@ -171,7 +172,12 @@ fn alpha_next(w_max: f64, w_est: f64, alpha_aimd: f64) -> f64
 fn estimated(q: Cubic, acked: u64, window: u64, size: u64) -> Estimate
     ensures { λ r. ⌜ estimateSays r ≡ cubic.estimated acked window size q ⌝ }
 {
-    let step = w_est_inc(q.alpha_aimd, float_of(acked), float_of(window), float_of(size));
+    let step = w_est_inc(
+        q.alpha_aimd,
+        float_of(acked),
+        float_of(window),
+        float_of(size),
+    );
     let w = q.w_est + step;
     if float_of(LIMIT) < w {
         return Estimate::Past;
@@ -292,7 +298,14 @@ fn acked_outside(g: Congestion, now: Moment, acked: u64, min_rtt: Span) -> Moved
 }
 
 // An acked packet: in recovery, or while the application limits the sender, it changes nothing. 01 CUBIC; 001 on_packet_acked
-pub fn packet_acked(g: Congestion, now: Moment, sent: Moment, size: u64, limited: bool, min_rtt: Span) -> Moved
+pub fn packet_acked(
+    g: Congestion,
+    now: Moment,
+    sent: Moment,
+    size: u64,
+    limited: bool,
+    min_rtt: Span,
+) -> Moved
     ensures { λ r. ⌜ movedSays r ≡ cubic.packetAcked now sent size limited «min_rtt» g ⌝ }
 {
     let start = g.congestion_recovery_start_time;

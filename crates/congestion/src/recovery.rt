@@ -1,16 +1,16 @@
 // Recovery: the checkpoint, the reduction and its rollback, and the lost count.
+use crate::Moved;
 use crate::curve::cubic_k_argument;
 use crate::curve::times_beta;
 use crate::curve::w_max_next;
-use crate::Moved;
-use arith::root::cube_root;
 use arith::root::Root;
+use arith::root::cube_root;
 use arith::round::float_of;
+use arith::time::Moment;
+use arith::time::Sum;
 use arith::time::add_up;
 use arith::time::greater;
 use arith::time::multiply;
-use arith::time::Moment;
-use arith::time::Sum;
 use model::Congestion;
 use model::Cubic;
 use model::PriorState;

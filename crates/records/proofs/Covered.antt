@@ -34,8 +34,9 @@ pub rising-drop : (a : ℕ) (l : List Sent) → Rising l → Rising (drop a l)
 rising-drop a l rising =
     record {
       rises = λ i j lt in-list.
-        let n = length-drop a l in
-        rw (number-drop a l i, number-drop a l j) (rising .rises (a + i) (a + j) (omega arith) (omega arith)) }
+          let n = length-drop a l in
+          rw (number-drop a l i, number-drop a l j) (rising .rises (a + i) (a + j) (omega arith) (omega arith));
+    }
 
 -- ---- the first that is not below x
 
@@ -60,9 +61,9 @@ pub one-first : (x : ℕ) (l : List Sent) (r s : ℕ) → First x l r → First 
 one-first x l r s f g = ⊎-elim
     (λ lt. absurd (let a = g .below r lt in let b = f .above (omega (arith, g .inside)) in let z : ⊥ = omega arith in z))
     (λ ge. ⊎-elim
-      (λ lt. absurd (let a = f .below s lt in let b = g .above (omega (arith, f .inside)) in let z : ⊥ = omega arith in z))
-      (λ le. omega arith)
-      (lt-or-ge s r))
+    (λ lt. absurd (let a = f .below s lt in let b = g .above (omega (arith, f .inside)) in let z : ⊥ = omega arith in z))
+    (λ le. omega arith)
+    (lt-or-ge s r))
     (lt-or-ge r s)
 
 -- so the halving finds as many as are below x from the front on
@@ -151,8 +152,8 @@ module _ (start end : ℕ) (more : List ℕ) (l : List Sent) (least : ℕ) (risi
       let n = length-take-le a l (start-at .inside) in
       map-all in-these false (take a l)
       (λ i lt.
-        let b : numberAt l i < start = start-at .below i (omega arith) in
-        rw (number-take a l i (omega arith), lt-leb start (numberAt l i) b) (hold-above (end + 1) more (numberAt l i) (p .next) (omega (arith, p .wide))))
+      let b : numberAt l i < start = start-at .below i (omega arith) in
+      rw (number-take a l i (omega arith), lt-leb start (numberAt l i) b) (hold-above (end + 1) more (numberAt l i) (p .next) (omega (arith, p .wide))))
       ∙ ap (λ (k : ℕ). replicate k false) n
 
   inside : map (λ (r : Sent). in-these (r .number)) (take h (drop a l)) ≡ replicate h true
@@ -160,20 +161,20 @@ module _ (start end : ℕ) (more : List ℕ) (l : List Sent) (least : ℕ) (risi
       let n = length-take-le h (drop a l) (end-at .inside) in
       map-all in-these true (take h (drop a l))
       (λ i lt.
-        let b : numberAt (drop a l) i < end = end-at .below i (omega arith) in
-        let c : start ≤ numberAt (drop a l) i =
-            rw (number-drop a l i) (from-first start l a rising start-at (a + i) (omega arith) (omega (arith, length-drop a l, end-at .inside))) in
-        rw (number-take h (drop a l) i (omega arith), le-leb start (numberAt (drop a l) i) c, lt-ltb (numberAt (drop a l) i) end b))
+      let b : numberAt (drop a l) i < end = end-at .below i (omega arith) in
+      let c : start ≤ numberAt (drop a l) i =
+      rw (number-drop a l i) (from-first start l a rising start-at (a + i) (omega arith) (omega (arith, length-drop a l, end-at .inside))) in
+      rw (number-take h (drop a l) i (omega arith), le-leb start (numberAt (drop a l) i) c, lt-ltb (numberAt (drop a l) i) end b))
       ∙ ap (λ (k : ℕ). replicate k true) n
 
   behind : map (λ (r : Sent). in-these (r .number)) (drop h (drop a l)) ≡ map (λ (r : Sent). hold more (r .number)) (drop h (drop a l))
   behind =
       map-same in-these (hold more) (drop h (drop a l))
       (λ i lt.
-        let n = length-drop h (drop a l) in
-        let b : end ≤ numberAt (drop h (drop a l)) i =
-            rw (number-drop h (drop a l) i) (from-first end (drop a l) h (rising-drop a l rising) end-at (h + i) (omega arith) (omega arith)) in
-        no-start (leb start (numberAt (drop h (drop a l)) i)) (ltb (numberAt (drop h (drop a l)) i) end) (hold more (numberAt (drop h (drop a l)) i)) (le-ltb (numberAt (drop h (drop a l)) i) end b))
+      let n = length-drop h (drop a l) in
+      let b : end ≤ numberAt (drop h (drop a l)) i =
+      rw (number-drop h (drop a l) i) (from-first end (drop a l) h (rising-drop a l rising) end-at (h + i) (omega arith) (omega arith)) in
+      no-start (leb start (numberAt (drop h (drop a l)) i)) (ltb (numberAt (drop h (drop a l)) i) end) (hold more (numberAt (drop h (drop a l)) i)) (le-ltb (numberAt (drop h (drop a l)) i) end b))
     where
       no-start : (x y z : Bool) → y ≡ false → ((x && y) || z) ≡ z
       no-start true y z e = rw e

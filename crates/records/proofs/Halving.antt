@@ -76,12 +76,12 @@ halved-ext f g x (suc k) lo width p =
     ⊎-elim
     (λ z. none-at f x (suc k) lo width (omega arith) ∙ sym (none-at g x (suc k) lo width (omega arith)))
     (λ pos.
-      let e = p (lo + width / 2) (omega arith) (omega arith) in
-      rw e
-      (go
-      (halved-ext f g x k (lo + width / 2 + 1) (width - width / 2 - 1) (λ i l r. p i (omega arith) (omega arith)))
-      (halved-ext f g x k lo (width / 2) (λ i l r. p i l (omega arith)))
-      (ltb 0 width && ltb (g (lo + width / 2)) x)))
+    let e = p (lo + width / 2) (omega arith) (omega arith) in
+    rw e
+    (go
+    (halved-ext f g x k (lo + width / 2 + 1) (width - width / 2 - 1) (λ i l r. p i (omega arith) (omega arith)))
+    (halved-ext f g x k lo (width / 2) (λ i l r. p i l (omega arith)))
+    (ltb 0 width && ltb (g (lo + width / 2)) x)))
     (eq-zero-or-pos width)
   where
     go :
@@ -122,10 +122,11 @@ module _ (f : ℕ → ℕ) (x top : ℕ) (rises : (i j : ℕ) → i < j → j < 
         from = omega (arith, a .from);
         to = omega (arith, a .to);
         below = λ i p q. ⊎-elim
-          (λ l. let h = rises i (lo + width / 2) l (omega arith) in omega arith)
-          (λ l. ⊎-elim (λ k. a .below i (omega arith) q) (λ k. let e : i ≡ lo + width / 2 = omega arith in rw e lt) (lt-or-ge (lo + width / 2) i))
-          (lt-or-ge i (lo + width / 2));
-        above = λ i p q. a .above i p (omega arith) }
+            (λ l. let h = rises i (lo + width / 2) l (omega arith) in omega arith)
+            (λ l. ⊎-elim (λ k. a .below i (omega arith) q) (λ k. let e : i ≡ lo + width / 2 = omega arith in rw e lt) (lt-or-ge (lo + width / 2) i))
+            (lt-or-ge i (lo + width / 2));
+        above = λ i p q. a .above i p (omega arith);
+      }
 
   lower : (lo width r : ℕ) → 0 < width → lo + width ≤ top → x ≤ f (lo + width / 2) → Among f x lo (width / 2) r → Among f x lo width r
   lower lo width r pos le ge a =
@@ -134,9 +135,10 @@ module _ (f : ℕ → ℕ) (x top : ℕ) (rises : (i j : ℕ) → i < j → j < 
         to = omega (arith, a .to);
         below = a .below;
         above = λ i p q. ⊎-elim
-          (λ l. a .above i p l)
-          (λ l. ⊎-elim (λ k. let h = rises (lo + width / 2) i k (omega arith) in omega arith) (λ k. let e : i ≡ lo + width / 2 = omega arith in rw e ge) (lt-or-ge (lo + width / 2) i))
-          (lt-or-ge i (lo + width / 2)) }
+            (λ l. a .above i p l)
+            (λ l. ⊎-elim (λ k. let h = rises (lo + width / 2) i k (omega arith) in omega arith) (λ k. let e : i ≡ lo + width / 2 = omega arith in rw e ge) (lt-or-ge (lo + width / 2) i))
+            (lt-or-ge i (lo + width / 2));
+      }
 
   found : (k lo width : ℕ) → width ≤ k → lo + width ≤ top → Among f x lo width (halved k f x lo width)
   found zero lo width p q =
@@ -144,16 +146,16 @@ module _ (f : ℕ → ℕ) (x top : ℕ) (rises : (i j : ℕ) → i < j → j < 
   found (suc k) lo width p q =
       ⊎-elim
       (λ z.
-        rw (none-at f x (suc k) lo width (omega arith))
-        (record { from = omega arith; to = omega arith; below = λ i a b. absurd (let z : ⊥ = omega arith in z); above = λ i a b. absurd (let z : ⊥ = omega arith in z) }))
+      rw (none-at f x (suc k) lo width (omega arith))
+      (record { from = omega arith; to = omega arith; below = λ i a b. absurd (let z : ⊥ = omega arith in z); above = λ i a b. absurd (let z : ⊥ = omega arith in z) }))
       (λ pos. ⊎-elim
-        (λ lt.
-          rw (halved-bound f x (suc k) width lo width p (omega arith), halved-past f x lo width pos lt, halved-bound f x (width - width / 2 - 1) k (lo + width / 2 + 1) (width - width / 2 - 1) (omega arith) (omega arith))
-          (upper lo width _ pos q lt (found k (lo + width / 2 + 1) (width - width / 2 - 1) (omega arith) (omega arith))))
-        (λ le.
-          rw (halved-bound f x (suc k) width lo width p (omega arith), halved-left f x lo width pos le, halved-bound f x (width / 2) k lo (width / 2) (omega arith) (omega arith))
-          (lower lo width _ pos q le (found k lo (width / 2) (omega arith) (omega arith))))
-        (lt-or-ge (f (lo + width / 2)) x))
+      (λ lt.
+      rw (halved-bound f x (suc k) width lo width p (omega arith), halved-past f x lo width pos lt, halved-bound f x (width - width / 2 - 1) k (lo + width / 2 + 1) (width - width / 2 - 1) (omega arith) (omega arith))
+      (upper lo width _ pos q lt (found k (lo + width / 2 + 1) (width - width / 2 - 1) (omega arith) (omega arith))))
+      (λ le.
+      rw (halved-bound f x (suc k) width lo width p (omega arith), halved-left f x lo width pos le, halved-bound f x (width / 2) k lo (width / 2) (omega arith) (omega arith))
+      (lower lo width _ pos q le (found k lo (width / 2) (omega arith) (omega arith))))
+      (lt-or-ge (f (lo + width / 2)) x))
       (eq-zero-or-pos width)
 
 -- the halving finds the first record that is not below x

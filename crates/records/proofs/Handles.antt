@@ -88,7 +88,8 @@ module _ (m : List ℕ) (n first total i stored left : ℕ) (m₀ : List ℕ) (l
   nothing e =
       record {
         count = sym (add-zero stored) ∙ (rw e at (inv .count));
-        memory = rw e at (inv .memory) }
+        memory = rw e at (inv .memory);
+      }
 
   pub left-none : left ≡ 0 → StoredFrom m₀ n 2 0 l stored m
   left-none z = nothing (ap (λ (k : ℕ). probesOf k (recordsOf m n (first + i) (total - i))) z ∙ probes-none (recordsOf m n (first + i) (total - i)))

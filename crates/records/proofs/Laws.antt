@@ -193,8 +193,18 @@ module _ (m : List ℕ) (n k : ℕ) (time : Moment) (p : Packet) where
         let a = bit-least (p .«ack_eliciting») in
         let b = bit-least (p .«in_flight») in
         let c = bit-least (p .«has_data») in
-        rw (word-0, word-1, word-2, word-3, word-4, word-5,
-          flag-1 (p .«ack_eliciting») _ _ _, flag-2 (p .«in_flight») _ _ _ a, flag-4 (p .«has_data») _ _ _ a b, flag-8 (p .«is_pmtud_probe») _ _ _ a b c)
+        rw (
+          word-0,
+          word-1,
+          word-2,
+          word-3,
+          word-4,
+          word-5,
+          flag-1 (p .«ack_eliciting») _ _ _,
+          flag-2 (p .«in_flight») _ _ _ a,
+          flag-4 (p .«has_data») _ _ _ a b,
+          flag-8 (p .«is_pmtud_probe») _ _ _ a b c,
+        )
 
 -- ---- the records of a space
 
@@ -243,7 +253,7 @@ pub records-push : (m : List ℕ) (n head len : ℕ) (time : Moment) (p : Packet
 records-push m n head len time p full room =
     let m′ = storeRecord m n (head + len) time p in
     let a : recordsOf m′ n head len ≡ recordsOf m n head len =
-        ring-ext (recordAt m′ n) (recordAt m n) head len (λ i lt. store-record-slot m n (head + len) time p (head + i) (places-apart capacity head i len lt room)) in
+    ring-ext (recordAt m′ n) (recordAt m n) head len (λ i lt. store-record-slot m n (head + len) time p (head + i) (places-apart capacity head i len lt room)) in
     ring-snoc (recordAt m′ n) head len ∙ rw (a, store-record m n (head + len) time p full)
 
 -- ---- marks
@@ -282,11 +292,11 @@ module _ (m : List ℕ) (n head i len mark : ℕ) (full : length m ≡ allWords)
   records-mark-around =
       let m′ = storeMark m n (head + i) mark in
       let a : recordsOf m′ n head i ≡ recordsOf m n head i =
-          ring-ext (recordAt m′ n) (recordAt m n) head i (λ j l. mark-slot m n (head + i) mark (head + j) (places-apart capacity head j i l (omega arith))) in
+      ring-ext (recordAt m′ n) (recordAt m n) head i (λ j l. mark-slot m n (head + i) mark (head + j) (places-apart capacity head j i l (omega arith))) in
       let b : recordsOf m′ n (head + i + 1) (len - (i + 1)) ≡ recordsOf m n (head + i + 1) (len - (i + 1)) =
-          ring-ext (recordAt m′ n) (recordAt m n) (head + i + 1) (len - (i + 1))
-          (λ j l. let e : head + i + 1 + j ≡ head + (i + 1 + j) = omega arith in
-            mark-slot m n (head + i) mark (head + i + 1 + j) (rw e (λ q. places-apart capacity head i (i + 1 + j) (omega arith) (omega arith) (sym q)))) in
+      ring-ext (recordAt m′ n) (recordAt m n) (head + i + 1) (len - (i + 1))
+      (λ j l. let e : head + i + 1 + j ≡ head + (i + 1 + j) = omega arith in
+      mark-slot m n (head + i) mark (head + i + 1 + j) (rw e (λ q. places-apart capacity head i (i + 1 + j) (omega arith) (omega arith) (sym q)))) in
       ring-around (recordAt m′ n) head i len lt ∙ rw (a, b, mark-record m n (head + i) mark full)
 
   pub records-mark : recordsOf (storeMark m n (head + i) mark) n head len ≡ set (recordsOf m n head len) i (recordBy m n (head + i) mark)
@@ -344,9 +354,9 @@ same-lost : (x y : ℕ) → _≡_ {A = Time} (cond (eqb x 0) Unset (At (moment (
 same-lost x y p = ⊎-elim
     (λ a. ⊎-elim (λ b. omega arith) (λ b. clash (rw (a, ne-eqb y 0 (λ e. omega arith)) at p)) (eq-zero-or-pos y))
     (λ a. ⊎-elim
-      (λ b. clash (sym (rw (b, ne-eqb x 0 (λ e. omega arith)) at p)))
-      (λ b. same (rw (ne-eqb x 0 (λ e. omega arith), ne-eqb y 0 (λ e. omega arith)) at p) a b)
-      (eq-zero-or-pos y))
+    (λ b. clash (sym (rw (b, ne-eqb x 0 (λ e. omega arith)) at p)))
+    (λ b. same (rw (ne-eqb x 0 (λ e. omega arith), ne-eqb y 0 (λ e. omega arith)) at p) a b)
+    (eq-zero-or-pos y))
     (eq-zero-or-pos x)
   where
     clash : {t : Moment} → Unset ≡ At t → x ≡ y
@@ -386,8 +396,8 @@ pub queue-push : (m : List ℕ) (n w len handle : ℕ) → length m ≡ allWords
 unfolding queueOf
 queue-push m n w len handle full room =
     let a : queueOf (storeHandle m n w len handle) n w len ≡ queueOf m n w len =
-        queue-ext m (storeHandle m n w len handle) n w len
-        (λ i lt. handle-other m n w len handle (slot n w i) (slot-places n w len i room (omega arith) (λ e. omega arith))) in
+    queue-ext m (storeHandle m n w len handle) n w len
+    (λ i lt. handle-other m n w len handle (slot n w i) (slot-places n w len i room (omega arith) (λ e. omega arith))) in
     let l : slot n w len < length m = rw full (slot-in n w len) in
     rw (add-one, a, getD-set-same m (slot n w len) handle 0 l)
 
@@ -420,6 +430,6 @@ module _ (m : List ℕ) (n w len : ℕ) where
   rest-queue = ⊎-elim
       (λ z. ap (λ (k : ℕ). rest (queueOf m n w k)) z ∙ sym (let e : len - 1 ≡ zero = omega arith in ap (queueOf m n w) e))
       (λ pos.
-        let e : len ≡ suc (len - 1) = omega arith in
-        ap (λ (k : ℕ). rest (queueOf m n w k)) e ∙ rest-last (queueOf m n w (len - 1)) (getD m (slot n w (len - 1)) 0))
+      let e : len ≡ suc (len - 1) = omega arith in
+      ap (λ (k : ℕ). rest (queueOf m n w k)) e ∙ rest-last (queueOf m n w (len - 1)) (getD m (slot n w (len - 1)) 0))
       (eq-zero-or-pos len)

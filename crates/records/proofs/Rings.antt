@@ -17,9 +17,9 @@ apart cap a k pos lt e =
     let e′ : a % cap ≡ (a % cap + k) % cap = e ∙ sym (mod-add-mod a cap k) in
     ⊎-elim
     (λ z.
-      let up : cap ≤ a % cap + k = omega arith in
-      let w : (a % cap + k) % cap ≡ a % cap + k - cap = mod-eq-sub-mod up ∙ mod-eq-of-lt (omega arith) in
-      omega arith)
+    let up : cap ≤ a % cap + k = omega arith in
+    let w : (a % cap + k) % cap ≡ a % cap + k - cap = mod-eq-sub-mod up ∙ mod-eq-of-lt (omega arith) in
+    omega arith)
     (λ z. let w : (a % cap + k) % cap ≡ a % cap + k = mod-eq-of-lt (omega arith) in omega arith)
     (eq-zero-or-pos (cap - (a % cap + k)))
 
@@ -93,7 +93,7 @@ ring-shift f a b zero p = refl
 ring-shift f a b (suc n) p =
     let x : f a ≡ f b = sym (ap f (add-zero a)) ∙ p 0 ∙ ap f (add-zero b) in
     let y : ring f (a + 1) n ≡ ring f (b + 1) n =
-        ring-shift f (a + 1) (b + 1) n (λ i. let e : a + 1 + i ≡ a + (suc i) = omega arith in let d : b + 1 + i ≡ b + (suc i) = omega arith in rw (e, d) (p (suc i))) in
+    ring-shift f (a + 1) (b + 1) n (λ i. let e : a + 1 + i ≡ a + (suc i) = omega arith in let d : b + 1 + i ≡ b + (suc i) = omega arith in rw (e, d) (p (suc i))) in
     cc
 
 -- the head may be taken round the ring

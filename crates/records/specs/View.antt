@@ -64,7 +64,8 @@ recordBy m n k mark =
       «is_pmtud_probe» = eqb (getD m (at n k 3) 0 / 8 % 2) 1;
       handle = getD m (at n k 4) 0;
       acked = ackedBy mark;
-      «time_lost» = lostBy mark }
+      «time_lost» = lostBy mark;
+    }
 
 unfoldable pub recordAt : List ℕ → ℕ → ℕ → Sent
 unfolding recordBy

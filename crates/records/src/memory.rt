@@ -14,17 +14,26 @@ ghost use Rattle.records.specs.View.{allWords, at, slot, bit, flagsOf, l
 pub const CAPACITY: usize = 256;
 // Where a space's queues begin, and how many words a space has.
 const QUEUES: usize = 6 * CAPACITY;
+
 const SPACE_WORDS: usize = 9 * CAPACITY;
+
 pub const WORDS: usize = 3 * SPACE_WORDS;
+
 pub type Words = [u64; WORDS];
 
 // The words of a record.
 const RECORD_WORDS: usize = 6;
+
 const NUMBER: usize = 0;
+
 const TIME_SENT: usize = 1;
+
 const SIZE: usize = 2;
+
 const FLAGS: usize = 3;
+
 const HANDLE: usize = 4;
+
 const MARK: usize = 5;
 
 // A lent array does not tell its length; one by value does. The copy is optimised away.
@@ -81,7 +90,11 @@ pub fn time_lost(mark: u64) -> Time
     ensures { λ r. ⌜ r ≡ lostBy mark ⌝ }
 {
     let t = mark / 2;
-    if t == 0 { Time::Unset } else { Time::At(Moment(t - 1)) }
+    if t == 0 {
+        Time::Unset
+    } else {
+        Time::At(Moment(t - 1))
+    }
 }
 
 // The record in slot k of space n.
@@ -116,7 +129,10 @@ fn bit_of(b: bool) -> u64
 fn flags_of(p: Packet) -> u64
     ensures { λ r. ⌜ r ≡ flagsOf p ⌝ }
 {
-    bit_of(p.ack_eliciting) + 2 * bit_of(p.in_flight) + 4 * bit_of(p.has_data) + 8 * bit_of(p.is_pmtud_probe)
+    bit_of(p.ack_eliciting)
+        + 2 * bit_of(p.in_flight)
+        + 4 * bit_of(p.has_data)
+        + 8 * bit_of(p.is_pmtud_probe)
 }
 
 // A packet that is sent at time takes slot k of space n.
@@ -151,5 +167,6 @@ pub fn handle_at(m: &Words, n: u64, w: u64, i: usize) -> u64
 pub fn store_handle(m: &mut Words, n: u64, w: u64, i: usize, handle: u64)
     ensures { λ _. ⌜ now (m .exit) ≡ storeHandle (now (m .entry)) n w i handle ⌝ }
 {
-    m[SPACE_WORDS * ((n % 3) as usize) + (QUEUES + (CAPACITY * ((w % 3) as usize) + i % CAPACITY))] = handle;
+    m[SPACE_WORDS * ((n % 3) as usize)
+        + (QUEUES + (CAPACITY * ((w % 3) as usize) + i % CAPACITY))] = handle;
 }

@@ -1,11 +1,11 @@
 // The handles that a PTO sends again. 01 Timer and PTO (000)
+use crate::memory::CAPACITY;
+use crate::memory::Words;
 use crate::memory::flags_at;
 use crate::memory::held;
 use crate::memory::mark_at;
 use crate::memory::record_handle_at;
 use crate::memory::store_handle;
-use crate::memory::Words;
-use crate::memory::CAPACITY;
 ghost use mathlib.Core.Path.{_≡_};
 ghost use Prim.Native.Nat.{_≤_, _%_, min};
 ghost use Rattle.model.specs.Numbers.{capacity};

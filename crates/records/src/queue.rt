@@ -1,6 +1,6 @@
 // A queue of handles, last in first out.
-use crate::memory::handle_at;
 use crate::memory::Words;
+use crate::memory::handle_at;
 ghost use mathlib.Core.Path.{_≡_};
 ghost use Rattle.model.specs.Sent.{newest};
 ghost use Rattle.records.specs.View.{queueOf};

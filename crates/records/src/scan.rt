@@ -1,12 +1,12 @@
 // What the records of a space come to, read one after another.
-use arith::time::add_up;
-use arith::time::Sum;
+use crate::memory::CAPACITY;
+use crate::memory::Words;
 use crate::memory::flags_at;
 use crate::memory::held;
 use crate::memory::mark_at;
 use crate::memory::size_at;
-use crate::memory::Words;
-use crate::memory::CAPACITY;
+use arith::time::Sum;
+use arith::time::add_up;
 ghost use mathlib.Core.Path.{_≡_};
 ghost use Prim.Native.Nat.{_%_, min};
 ghost use Rattle.arith.specs.Whole.{within};

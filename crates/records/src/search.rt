@@ -1,8 +1,8 @@
 // The place where a range begins among the records of a space, found by halving. 01 Acknowledgement (000)
+use crate::memory::CAPACITY;
+use crate::memory::Words;
 use crate::memory::held;
 use crate::memory::number_at;
-use crate::memory::Words;
-use crate::memory::CAPACITY;
 ghost use mathlib.Core.Path.{_≡_};
 ghost use Prim.Native.Nat.{_+_, _≤_, _%_, min};
 ghost use lib.ListN.{getD};

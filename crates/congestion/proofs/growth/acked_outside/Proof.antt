@@ -28,9 +28,11 @@ enum-told-3 c = search needs
 
 returns-2 : tie.Need-returns-2
 unfolding ackedOutside
-returns-2 c = rw (← c .before .before .few-lost .ensures,
-    c .enum-told3 .given .1,
-    c .before .before .before .enum-told .given .1)
+returns-2 c = rw (
+  ← c .before .before .few-lost .ensures,
+  c .enum-told3 .given .1,
+  c .before .before .before .enum-told .given .1,
+)
 
 rolls-back-requires : tie.Need-rolls-back-requires
 rolls-back-requires c κs = search needs
@@ -43,26 +45,30 @@ rolled-back-requires c κs = search needs
 
 returns-3 : tie.Need-returns-3
 unfolding ackedOutside
-returns-3 c = rw (← c .before .before .before .before .before .before .before .few-lost .ensures,
-    c .before .before .before .before .before .few .given .1,
-    ← c .before .before .before .rolls-back .ensures,
-    ← c .before .before .both .ensures,
-    c .before .if1 .taken,
-    ← c .rolled-back .ensures,
-    c .before .before .before .before .before .before .before .before .enum-told .given .1)
+returns-3 c = rw (
+  ← c .before .before .before .before .before .before .before .few-lost .ensures,
+  c .before .before .before .before .before .few .given .1,
+  ← c .before .before .before .rolls-back .ensures,
+  ← c .before .before .both .ensures,
+  c .before .if1 .taken,
+  ← c .rolled-back .ensures,
+  c .before .before .before .before .before .before .before .before .enum-told .given .1,
+)
 
 grow-requires-2 : tie.Need-grow-requires-2
 grow-requires-2 c κs = search needs
 
 returns-4 : tie.Need-returns-4
 unfolding ackedOutside
-returns-4 c = rw (← c .before .before .before .before .before .before .before .few-lost .ensures,
-    c .before .before .before .before .before .few .given .1,
-    ← c .before .before .before .rolls-back .ensures,
-    ← c .before .before .both .ensures,
-    c .before .if1 .left,
-    ← c .grow2 .ensures,
-    c .before .before .before .before .before .before .before .before .enum-told .given .1)
+returns-4 c = rw (
+  ← c .before .before .before .before .before .before .before .few-lost .ensures,
+  c .before .before .before .before .before .few .given .1,
+  ← c .before .before .before .rolls-back .ensures,
+  ← c .before .before .both .ensures,
+  c .before .if1 .left,
+  ← c .grow2 .ensures,
+  c .before .before .before .before .before .before .before .before .enum-told .given .1,
+)
 
 pub acked-outside-spec : {M : Type 1} → statement M
 acked-outside-spec =

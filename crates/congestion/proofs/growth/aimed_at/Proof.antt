@@ -21,12 +21,14 @@ greater-requires c κs = search needs
 
 returns : tie.Need-returns
 unfolding aimedAt
-returns c = λ k. rw (← c .before .before .before .before .before .before .seconds-of .ensures,
-    ← c .before .before .before .before .before .float-of .ensures,
-    ← c .before .before .before .before .w-cubic .ensures,
-    c .before .before .if1 .taken,
-    ← c .before .truncated .ensures,
-    ← c .greater .ensures)
+returns c = λ k. rw (
+  ← c .before .before .before .before .before .before .seconds-of .ensures,
+  ← c .before .before .before .before .before .float-of .ensures,
+  ← c .before .before .before .before .w-cubic .ensures,
+  c .before .before .if1 .taken,
+  ← c .before .truncated .ensures,
+  ← c .greater .ensures,
+)
 
 above-requires : tie.Need-above-requires
 above-requires c κs = search needs
@@ -42,13 +44,15 @@ enum-told c = search needs
 
 returns-2 : tie.Need-returns-2
 unfolding aimedAt
-returns-2 c = λ k. rw (← c .before .before .before .before .before .before .before .before .seconds-of .ensures,
-    ← c .before .before .before .before .before .before .before .float-of .ensures,
-    ← c .before .before .before .before .before .before .w-cubic .ensures,
-    c .before .before .before .before .if1 .left,
-    ← c .before .before .before .above .ensures,
-    ← c .before .before .multiply .ensures,
-    c .enum-told .given .1)
+returns-2 c = λ k. rw (
+  ← c .before .before .before .before .before .before .before .before .seconds-of .ensures,
+  ← c .before .before .before .before .before .before .before .float-of .ensures,
+  ← c .before .before .before .before .before .before .w-cubic .ensures,
+  c .before .before .before .before .if1 .left,
+  ← c .before .before .before .above .ensures,
+  ← c .before .before .multiply .ensures,
+  c .enum-told .given .1,
+)
 
 quotient-requires : tie.Need-quotient-requires
 quotient-requires c κs = search needs
@@ -58,15 +62,17 @@ add-up-requires c κs = search needs
 
 returns-3 : tie.Need-returns-3
 unfolding aimedAt
-returns-3 c = λ k. rw (← c .before .before .before .before .before .before .before .before .before .before .before .seconds-of .ensures,
-    ← c .before .before .before .before .before .before .before .before .before .before .float-of .ensures,
-    ← c .before .before .before .before .before .before .before .before .before .w-cubic .ensures,
-    c .before .before .before .before .before .before .before .if1 .left,
-    ← c .before .before .before .before .before .before .above .ensures,
-    ← c .before .before .before .before .before .multiply .ensures,
-    c .before .before .before .step .given .1,
-    ← c .before .quotient .ensures,
-    ← c .add-up .ensures)
+returns-3 c = λ k. rw (
+  ← c .before .before .before .before .before .before .before .before .before .before .before .seconds-of .ensures,
+  ← c .before .before .before .before .before .before .before .before .before .before .float-of .ensures,
+  ← c .before .before .before .before .before .before .before .before .before .w-cubic .ensures,
+  c .before .before .before .before .before .before .before .if1 .left,
+  ← c .before .before .before .before .before .before .above .ensures,
+  ← c .before .before .before .before .before .multiply .ensures,
+  c .before .before .before .step .given .1,
+  ← c .before .quotient .ensures,
+  ← c .add-up .ensures,
+)
 
 pub aimed-at-spec : {M : Type 1} → statement M
 aimed-at-spec =

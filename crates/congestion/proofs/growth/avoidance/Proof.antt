@@ -24,11 +24,13 @@ enum-told c = search needs
 
 returns : tie.Need-returns
 unfolding avoidance
-returns c = rw (← c .before .before .before .before .before .start-of .ensures,
-    ← c .before .before .before .before .since .ensures,
-    ← c .before .before .before .begun .ensures,
-    ← c .before .before .add-spans .ensures,
-    c .enum-told .given .1)
+returns c = rw (
+  ← c .before .before .before .before .before .start-of .ensures,
+  ← c .before .before .before .before .since .ensures,
+  ← c .before .before .before .begun .ensures,
+  ← c .before .before .add-spans .ensures,
+  c .enum-told .given .1,
+)
 
 estimated-requires : tie.Need-estimated-requires
 estimated-requires c κs = search needs
@@ -41,13 +43,15 @@ enum-told-2 c = search needs
 
 returns-2 : tie.Need-returns-2
 unfolding avoidance
-returns-2 c = rw (← c .before .before .before .before .before .before .before .before .before .start-of .ensures,
-    ← c .before .before .before .before .before .before .before .before .since .ensures,
-    ← c .before .before .before .before .before .before .before .begun .ensures,
-    ← c .before .before .before .before .before .before .add-spans .ensures,
-    c .before .before .before .before .then .given .1,
-    ← c .before .before .estimated .ensures,
-    c .enum-told2 .given .1)
+returns-2 c = rw (
+  ← c .before .before .before .before .before .before .before .before .before .start-of .ensures,
+  ← c .before .before .before .before .before .before .before .before .since .ensures,
+  ← c .before .before .before .before .before .before .before .begun .ensures,
+  ← c .before .before .before .before .before .before .add-spans .ensures,
+  c .before .before .before .before .then .given .1,
+  ← c .before .before .estimated .ensures,
+  c .enum-told2 .given .1,
+)
 
 target-of-requires : tie.Need-target-of-requires
 target-of-requires c κs = search needs
@@ -57,15 +61,17 @@ step-towards-requires c κs = search needs
 
 returns-3 : tie.Need-returns-3
 unfolding avoidance
-returns-3 c = rw (← c .before .before .before .before .before .before .before .before .before .before .before .before .start-of .ensures,
-    ← c .before .before .before .before .before .before .before .before .before .before .before .since .ensures,
-    ← c .before .before .before .before .before .before .before .before .before .before .begun .ensures,
-    ← c .before .before .before .before .before .before .before .before .before .add-spans .ensures,
-    c .before .before .before .before .before .before .before .then .given .1,
-    ← c .before .before .before .before .before .estimated .ensures,
-    c .before .before .before .e .given .1,
-    ← c .before .target-of .ensures,
-    ← c .step-towards .ensures)
+returns-3 c = rw (
+  ← c .before .before .before .before .before .before .before .before .before .before .before .before .start-of .ensures,
+  ← c .before .before .before .before .before .before .before .before .before .before .before .since .ensures,
+  ← c .before .before .before .before .before .before .before .before .before .before .begun .ensures,
+  ← c .before .before .before .before .before .before .before .before .before .add-spans .ensures,
+  c .before .before .before .before .before .before .before .then .given .1,
+  ← c .before .before .before .before .before .estimated .ensures,
+  c .before .before .before .e .given .1,
+  ← c .before .target-of .ensures,
+  ← c .step-towards .ensures,
+)
 
 pub avoidance-spec : {M : Type 1} → statement M
 avoidance-spec =

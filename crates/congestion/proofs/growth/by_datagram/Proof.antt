@@ -12,15 +12,19 @@ returns-2 : tie.Need-returns-2
 returns-2 c = λ k. rw (le-leb _ _ (c .before .if1 .left), window-past 1073741824 _ _ (c .if2 .taken))
 
 returns-3 : tie.Need-returns-3
-returns-3 c = λ k. rw (le-leb _ _ (c .before .before .if1 .left),
-    window-past-by 1073741824 _ _ (c .before .if2 .left) (c .if3 .taken))
+returns-3 c = λ k. rw (
+  le-leb _ _ (c .before .before .if1 .left),
+  window-past-by 1073741824 _ _ (c .before .if2 .left) (c .if3 .taken),
+)
 
 add-t5 : tie.Need-add-t5
 add-t5 c = search needs
 
 returns-4 : tie.Need-returns-4
-returns-4 c = λ k. rw (le-leb _ _ (c .before .before .if1 .left),
-    window-within 1073741824 _ _ (c .before .if2 .left) (c .if3 .left))
+returns-4 c = λ k. rw (
+  le-leb _ _ (c .before .before .if1 .left),
+  window-within 1073741824 _ _ (c .before .if2 .left) (c .if3 .left),
+)
 
 pub by-datagram-spec : {M : Type 1} → statement M
 by-datagram-spec = tie.close (tie.spec returns returns-2 returns-3 add-t5 returns-4)

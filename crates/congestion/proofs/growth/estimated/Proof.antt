@@ -21,25 +21,29 @@ float-of-requires-4 c κs = search needs
 
 returns : tie.Need-returns
 unfolding estimated
-returns c = rw (← c .before .before .before .before .before .before .float-of .ensures,
-    ← c .before .before .before .before .before .float-of2 .ensures,
-    ← c .before .before .before .before .float-of3 .ensures,
-    ← c .before .before .before .w-est-inc .ensures,
-    ← c .before .float-of4 .ensures,
-    c .if1 .taken)
+returns c = rw (
+  ← c .before .before .before .before .before .before .float-of .ensures,
+  ← c .before .before .before .before .before .float-of2 .ensures,
+  ← c .before .before .before .before .float-of3 .ensures,
+  ← c .before .before .before .w-est-inc .ensures,
+  ← c .before .float-of4 .ensures,
+  c .if1 .taken,
+)
 
 alpha-next-requires : tie.Need-alpha-next-requires
 alpha-next-requires c κs = search needs
 
 returns-2 : tie.Need-returns-2
 unfolding estimated
-returns-2 c = rw (← c .before .before .before .before .before .before .before .float-of .ensures,
-    ← c .before .before .before .before .before .before .float-of2 .ensures,
-    ← c .before .before .before .before .before .float-of3 .ensures,
-    ← c .before .before .before .before .w-est-inc .ensures,
-    ← c .before .before .float-of4 .ensures,
-    c .before .if1 .left,
-    ← c .alpha-next .ensures)
+returns-2 c = rw (
+  ← c .before .before .before .before .before .before .before .float-of .ensures,
+  ← c .before .before .before .before .before .before .float-of2 .ensures,
+  ← c .before .before .before .before .before .float-of3 .ensures,
+  ← c .before .before .before .before .w-est-inc .ensures,
+  ← c .before .before .float-of4 .ensures,
+  c .before .if1 .left,
+  ← c .alpha-next .ensures,
+)
 
 pub estimated-spec : {M : Type 1} → statement M
 estimated-spec =

@@ -18,9 +18,11 @@ enum-told c = search needs
 
 returns : tie.Need-returns
 unfolding fewLost
-returns c = λ k. rw (← c .before .before .before .quotient .ensures,
-    ← c .before .before .multiply .ensures,
-    c .enum-told .given .1)
+returns c = λ k. rw (
+  ← c .before .before .before .quotient .ensures,
+  ← c .before .before .multiply .ensures,
+  c .enum-told .given .1,
+)
 
 greater-requires : tie.Need-greater-requires
 greater-requires c κs = search needs
@@ -30,11 +32,13 @@ above-requires c κs = search needs
 
 returns-2 : tie.Need-returns-2
 unfolding fewLost
-returns-2 c = λ k. rw (← c .before .before .before .before .before .before .quotient .ensures,
-    ← c .before .before .before .before .before .multiply .ensures,
-    c .before .before .before .n .given .1,
-    ← c .before .greater .ensures,
-    ← c .above .ensures)
+returns-2 c = λ k. rw (
+  ← c .before .before .before .before .before .before .quotient .ensures,
+  ← c .before .before .before .before .before .multiply .ensures,
+  c .before .before .before .n .given .1,
+  ← c .before .greater .ensures,
+  ← c .above .ensures,
+)
 
 pub few-lost-spec : {M : Type 1} → statement M
 few-lost-spec =

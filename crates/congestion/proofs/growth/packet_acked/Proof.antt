@@ -20,10 +20,12 @@ acked-outside-requires c κs = search needs
 
 returns-3 : tie.Need-returns-3
 unfolding packetAcked
-returns-3 c = rw (← c .before .before .before .in-congestion-recovery .ensures,
-    c .before .before .if1 .left,
-    c .before .if2 .left,
-    ← c .acked-outside .ensures)
+returns-3 c = rw (
+  ← c .before .before .before .in-congestion-recovery .ensures,
+  c .before .before .if1 .left,
+  c .before .if2 .left,
+  ← c .acked-outside .ensures,
+)
 
 pub packet-acked-spec : {M : Type 1} → statement M
 packet-acked-spec =

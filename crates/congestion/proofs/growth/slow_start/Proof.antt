@@ -28,21 +28,25 @@ enum-told-2 c = search needs
 
 returns-2 : tie.Need-returns-2
 unfolding slowStart
-returns-2 c = rw (← c .before .before .before .before .before .before .add-up .ensures,
-    c .before .before .before .before .sum .given .1,
-    ← c .before .before .by-datagram .ensures,
-    c .enum-told2 .given .1)
+returns-2 c = rw (
+  ← c .before .before .before .before .before .before .add-up .ensures,
+  c .before .before .before .before .sum .given .1,
+  ← c .before .before .by-datagram .ensures,
+  c .enum-told2 .given .1,
+)
 
 grown-requires : tie.Need-grown-requires
 grown-requires c κs = search needs
 
 returns-3 : tie.Need-returns-3
 unfolding slowStart
-returns-3 c = rw (← c .before .before .before .before .before .before .before .before .add-up .ensures,
-    c .before .before .before .before .before .before .sum .given .1,
-    ← c .before .before .before .before .by-datagram .ensures,
-    c .before .before .window .given .1,
-    ← c .grown .ensures)
+returns-3 c = rw (
+  ← c .before .before .before .before .before .before .before .before .add-up .ensures,
+  c .before .before .before .before .before .before .sum .given .1,
+  ← c .before .before .before .before .by-datagram .ensures,
+  c .before .before .window .given .1,
+  ← c .grown .ensures,
+)
 
 pub slow-start-spec : {M : Type 1} → statement M
 slow-start-spec =

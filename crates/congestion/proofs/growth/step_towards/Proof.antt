@@ -28,11 +28,13 @@ enum-told-2 : tie.Need-enum-told-2
 enum-told-2 c = search needs
 
 returns-2 : tie.Need-returns-2
-returns-2 c = rw (← c .before .before .before .before .before .before .before .aimed-at .ensures,
-    c .before .before .before .before .before .aim .given .1,
-    ← c .before .before .before .above .ensures,
-    ← c .before .before .add-up .ensures,
-    c .enum-told2 .given .1)
+returns-2 c = rw (
+  ← c .before .before .before .before .before .before .before .aimed-at .ensures,
+  c .before .before .before .before .before .aim .given .1,
+  ← c .before .before .before .above .ensures,
+  ← c .before .before .add-up .ensures,
+  c .enum-told2 .given .1,
+)
 
 by-datagram-requires : tie.Need-by-datagram-requires
 by-datagram-requires c κs = search needs
@@ -44,26 +46,30 @@ enum-told-3 : tie.Need-enum-told-3
 enum-told-3 c = search needs
 
 returns-3 : tie.Need-returns-3
-returns-3 c = rw (← c .before .before .before .before .before .before .before .before .before .before .before .aimed-at .ensures,
-    c .before .before .before .before .before .before .before .before .before .aim .given .1,
-    ← c .before .before .before .before .before .before .before .above .ensures,
-    ← c .before .before .before .before .before .before .add-up .ensures,
-    c .before .before .before .before .sum .given .1,
-    ← c .before .before .by-datagram .ensures,
-    c .enum-told3 .given .1)
+returns-3 c = rw (
+  ← c .before .before .before .before .before .before .before .before .before .before .before .aimed-at .ensures,
+  c .before .before .before .before .before .before .before .before .before .aim .given .1,
+  ← c .before .before .before .before .before .before .before .above .ensures,
+  ← c .before .before .before .before .before .before .add-up .ensures,
+  c .before .before .before .before .sum .given .1,
+  ← c .before .before .by-datagram .ensures,
+  c .enum-told3 .given .1,
+)
 
 grown-requires : tie.Need-grown-requires
 grown-requires c κs = search needs
 
 returns-4 : tie.Need-returns-4
-returns-4 c = rw (← c .before .before .before .before .before .before .before .before .before .before .before .before .before .aimed-at .ensures,
-    c .before .before .before .before .before .before .before .before .before .before .before .aim .given .1,
-    ← c .before .before .before .before .before .before .before .before .before .above .ensures,
-    ← c .before .before .before .before .before .before .before .before .add-up .ensures,
-    c .before .before .before .before .before .before .sum .given .1,
-    ← c .before .before .before .before .by-datagram .ensures,
-    c .before .before .next .given .1,
-    ← c .grown .ensures)
+returns-4 c = rw (
+  ← c .before .before .before .before .before .before .before .before .before .before .before .before .before .aimed-at .ensures,
+  c .before .before .before .before .before .before .before .before .before .before .before .aim .given .1,
+  ← c .before .before .before .before .before .before .before .before .before .above .ensures,
+  ← c .before .before .before .before .before .before .before .before .add-up .ensures,
+  c .before .before .before .before .before .before .sum .given .1,
+  ← c .before .before .before .before .by-datagram .ensures,
+  c .before .before .next .given .1,
+  ← c .grown .ensures,
+)
 
 pub step-towards-spec : {M : Type 1} → statement M
 step-towards-spec =

@@ -27,13 +27,15 @@ truncated-requires c κs = search needs
 
 returns : tie.Need-returns
 unfolding targetOf
-returns c = rw (← c .before .before .before .before .before .before .float-of .ensures,
-    ← c .before .before .before .before .before .seconds-of .ensures,
-    ← c .before .before .before .before .float-of2 .ensures,
-    ← c .before .before .before .w-cubic .ensures,
-    ← c .before .before .larger .ensures,
-    ← c .before .smaller .ensures,
-    ← c .truncated .ensures)
+returns c = rw (
+  ← c .before .before .before .before .before .before .float-of .ensures,
+  ← c .before .before .before .before .before .seconds-of .ensures,
+  ← c .before .before .before .before .float-of2 .ensures,
+  ← c .before .before .before .w-cubic .ensures,
+  ← c .before .before .larger .ensures,
+  ← c .before .smaller .ensures,
+  ← c .truncated .ensures,
+)
 
 pub target-of-spec : {M : Type 1} → statement M
 target-of-spec =

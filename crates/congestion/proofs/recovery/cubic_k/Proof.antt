@@ -24,11 +24,13 @@ cube-root-requires c κs = search needs
 
 returns-2 : tie.Need-returns-2
 unfolding kNext
-returns-2 c = rw (← c .before .before .before .before .float-of .ensures,
-    c .before .before .before .if1 .left,
-    ← c .before .before .float-of2 .ensures,
-    ← c .before .cubic-k-argument .ensures,
-    ← root-is (c .cube-root .ensures))
+returns-2 c = rw (
+  ← c .before .before .before .before .float-of .ensures,
+  c .before .before .before .if1 .left,
+  ← c .before .before .float-of2 .ensures,
+  ← c .before .cubic-k-argument .ensures,
+  ← root-is (c .cube-root .ensures),
+)
 
 pub cubic-k-spec : {M : Type 1} → statement M
 cubic-k-spec =

@@ -26,11 +26,13 @@ greater-requires c κs = search needs
 
 returns-2 : tie.Need-returns-2
 unfolding reduce
-returns-2 c = rw (← c .before .before .before .before .before .before .multiply .ensures,
-    c .before .before .before .before .least .given .1,
-    ← c .before .before .times-beta .ensures,
-    ← c .before .greater .ensures,
-    lt-leb _ _ (c .if1 .taken))
+returns-2 c = rw (
+  ← c .before .before .before .before .before .before .multiply .ensures,
+  c .before .before .before .before .least .given .1,
+  ← c .before .before .times-beta .ensures,
+  ← c .before .greater .ensures,
+  lt-leb _ _ (c .if1 .taken),
+)
 
 w-max-next-requires : tie.Need-w-max-next-requires
 w-max-next-requires c κs = search needs
@@ -46,14 +48,16 @@ enum-told-2 c = search needs
 
 returns-3 : tie.Need-returns-3
 unfolding reduce kBy
-returns-3 c = rw (← c .before .before .before .before .before .before .before .before .before .before .multiply .ensures,
-    c .before .before .before .before .before .before .before .before .least .given .1,
-    ← c .before .before .before .before .before .before .times-beta .ensures,
-    ← c .before .before .before .before .before .greater .ensures,
-    le-leb _ _ (c .before .before .before .before .if1 .left),
-    ← c .before .before .before .w-max-next .ensures,
-    ← c .before .before .cubic-k .ensures,
-    c .enum-told2 .given .1)
+returns-3 c = rw (
+  ← c .before .before .before .before .before .before .before .before .before .before .multiply .ensures,
+  c .before .before .before .before .before .before .before .before .least .given .1,
+  ← c .before .before .before .before .before .before .times-beta .ensures,
+  ← c .before .before .before .before .before .greater .ensures,
+  le-leb _ _ (c .before .before .before .before .if1 .left),
+  ← c .before .before .before .w-max-next .ensures,
+  ← c .before .before .cubic-k .ensures,
+  c .enum-told2 .given .1,
+)
 
 float-of-requires : tie.Need-float-of-requires
 float-of-requires c κs = search needs
@@ -66,17 +70,19 @@ checkpoint-requires c κs = search needs
 
 returns-4 : tie.Need-returns-4
 unfolding reduce kBy
-returns-4 c = rw (← c .before .before .before .before .before .before .before .before .before .before .before .before .before .before .multiply .ensures,
-    c .before .before .before .before .before .before .before .before .before .before .before .before .least .given .1,
-    ← c .before .before .before .before .before .before .before .before .before .before .times-beta .ensures,
-    ← c .before .before .before .before .before .before .before .before .before .greater .ensures,
-    le-leb _ _ (c .before .before .before .before .before .before .before .before .if1 .left),
-    ← c .before .before .before .before .before .before .before .w-max-next .ensures,
-    ← c .before .before .before .before .before .before .cubic-k .ensures,
-    c .before .before .before .before .k .given .1,
-    ← c .before .before .float-of .ensures,
-    ← c .before .times-beta2 .ensures,
-    ← c .checkpoint .ensures)
+returns-4 c = rw (
+  ← c .before .before .before .before .before .before .before .before .before .before .before .before .before .before .multiply .ensures,
+  c .before .before .before .before .before .before .before .before .before .before .before .before .least .given .1,
+  ← c .before .before .before .before .before .before .before .before .before .before .times-beta .ensures,
+  ← c .before .before .before .before .before .before .before .before .before .greater .ensures,
+  le-leb _ _ (c .before .before .before .before .before .before .before .before .if1 .left),
+  ← c .before .before .before .before .before .before .before .w-max-next .ensures,
+  ← c .before .before .before .before .before .before .cubic-k .ensures,
+  c .before .before .before .before .k .given .1,
+  ← c .before .before .float-of .ensures,
+  ← c .before .times-beta2 .ensures,
+  ← c .checkpoint .ensures,
+)
 
 pub reduce-spec : {M : Type 1} → statement M
 reduce-spec =

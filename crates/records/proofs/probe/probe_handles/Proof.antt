@@ -56,12 +56,13 @@ loop-again c = let turn = c .before .before .before in
     let lt = turn .before .loop-test .taken in
     ⊎-elim
     (λ w.
-      rw (w .5, w .6, w .7)
-      (omega arith,
-        (omega (arith, put-small (w .4 .ensures)), left-put _ _ _ _ _ _ _ _ _ (inv .1) lt (turn .if1 .left) (c .before .awaits .ensures) (w .0 .taken) (w .2 .ensures) (w .4 .ensures))))
+    rw (w .5, w .6, w .7) (
+      omega arith,
+      (omega (arith, put-small (w .4 .ensures)), left-put _ _ _ _ _ _ _ _ _ (inv .1) lt (turn .if1 .left) (c .before .awaits .ensures) (w .0 .taken) (w .2 .ensures) (w .4 .ensures)),
+    ))
     (λ w.
-      rw (w .1, w .2, w .3)
-      (omega arith, (omega arith, left-on _ _ _ _ _ _ _ _ _ (inv .1) lt (turn .if1 .left) (c .before .awaits .ensures) (w .0 .left))))
+    rw (w .1, w .2, w .3)
+    (omega arith, (omega arith, left-on _ _ _ _ _ _ _ _ _ (inv .1) lt (turn .if1 .left) (c .before .awaits .ensures) (w .0 .left))))
     (c .if2 .came)
 
 returns-2 : tie.Need-returns-2 Inv-loop μ-loop

@@ -48,11 +48,11 @@ loop-less c = search needs
 
 loop-again : tie.Need-loop-again Inv-loop μ-loop
 loop-again c = (
-    omega arith,
-    ⊎-elim
-    (λ w. hold-high _ _ _ (c .before .before .loop-test .taken) (c .before .before .before .loop .inv .1) (w .0 .taken) (w .2 .left))
-    (λ w. hold-low _ _ _ (c .before .before .loop-test .taken) (c .before .before .before .loop .inv .1) (w .left))
-    (c .if1 .came),
+  omega arith,
+  ⊎-elim
+      (λ w. hold-high _ _ _ (c .before .before .loop-test .taken) (c .before .before .before .loop .inv .1) (w .0 .taken) (w .2 .left))
+      (λ w. hold-low _ _ _ (c .before .before .loop-test .taken) (c .before .before .before .loop .inv .1) (w .left))
+      (c .if1 .came),
 )
 
 returns-2 : tie.Need-returns-2 Inv-loop μ-loop

@@ -52,10 +52,13 @@ loop-less c = search needs
 
 loop-again : tie.Need-loop-again Inv-loop μ-loop
 loop-again c = let loop = c .before .before .before .before .before .before in
-    let turn = c .before .before .before in
-    (omega arith,
-      (scan-small _ _ _ _ _ _ _ (loop .loop .inv .1 .1) (turn .before .before .loop-test .taken) (turn .before .weight-at .ensures) (turn .add-up .ensures) (c .before .sum .given .1),
-        scan-on _ _ _ _ _ _ _ (loop .loop .inv .1 .1) (turn .before .before .loop-test .taken) (turn .before .weight-at .ensures) (turn .add-up .ensures) (c .before .sum .given .1)))
+    let turn = c .before .before .before in (
+      omega arith,
+      (
+        scan-small _ _ _ _ _ _ _ (loop .loop .inv .1 .1) (turn .before .before .loop-test .taken) (turn .before .weight-at .ensures) (turn .add-up .ensures) (c .before .sum .given .1),
+        scan-on _ _ _ _ _ _ _ (loop .loop .inv .1 .1) (turn .before .before .loop-test .taken) (turn .before .weight-at .ensures) (turn .add-up .ensures) (c .before .sum .given .1),
+      ),
+    )
 
 returns-2 : tie.Need-returns-2 Inv-loop μ-loop
 returns-2 c = let held = c .before .before in
