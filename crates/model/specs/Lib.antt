@@ -10,6 +10,7 @@ pub mod Control
 pub mod Connection
 pub mod Events
 pub mod Run
+pub mod Trace
 pub mod History
 pub mod Promises
 pub mod Rehearsals

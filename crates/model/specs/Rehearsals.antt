@@ -1,7 +1,9 @@
 -- 01 'Rehearsals': every row marked P, as rows of a single table under one claim about the definitions. Times in nanoseconds.
 use Prim.Native.Nat.{ℕ, _+_, _-_, _*_, _^_}
 use mathlib.Core.Bool.{Bool, true, false, cond, _&&_, not}
-use mathlib.Core.List.{List, [], _∷_}
+use mathlib.Core.List.{List, [], _∷_, _++_}
+use lib.ListN.{replicate}
+use Rattle.model.specs.Trace.{replay, printed}
 use lib.Dec.{T, eqb, leb, ltb}
 use lib.Ieee.{Float, binary64, toBits, ofBits, add, sub, mul, div, ofInt, toUnsigned, lt, le, eq}
 use Rattle.arith.specs.Whole.{within, sumOf, timesOf}
@@ -54,6 +56,8 @@ pub data Row : Type 0 where
   earliest : Time → Time → Time → Time → Row
   -- a root's argument, and the root
   root : ℕ → ℕ → Row
+  -- a trace's bytes, and the text that its replay on a fresh connection prints
+  prints : List ℕ → List ℕ → Row
   -- after these events on a fresh connection: window, bytes in flight and timer
   shows : List Event → ℕ → ℕ → Time → Row
 
@@ -116,8 +120,37 @@ epochWith t =
       «largest_sent_packet» = Missing;
     }
 
+-- ---- the whole output: the trace's bytes, and the text that a replay prints
+
+-- sent (0 ns, space 2, number 0, 1,200, flags 7, status 7), range 0 to 1, ack (100 ms, space 2, delay 0, status 7, not limited, none skipped)
+unfoldable pub wholeTrace : List ℕ
+wholeTrace =
+    1 ∷ (replicate 8 0 ++ (2 ∷ (replicate 8 0 ++ (4 ∷ 176 ∷ 7 ∷ (replicate 8 0 ++ (7 ∷ []))))))
+    ++ (2 ∷ (replicate 15 0 ++ (1 ∷ [])))
+    ++ (3 ∷ (0 ∷ 0 ∷ 0 ∷ 0 ∷ 5 ∷ 245 ∷ 225 ∷ 0 ∷ 2 ∷ (replicate 8 0 ++ (7 ∷ 0 ∷ replicate 8 255))))
+
+-- 1 0 12000 1200 1024000000
+-- 3 0 13200 0 -
+-- end 2
+unfoldable pub wholeOutput : List ℕ
+wholeOutput =
+    49 ∷ 32 ∷ 48 ∷ 32 ∷ 49 ∷ 50 ∷ 48 ∷ 48 ∷ 48 ∷ 32 ∷ 49 ∷ 50 ∷ 48 ∷ 48 ∷ 32 ∷ 49 ∷ 48 ∷ 50 ∷ 52 ∷ 48 ∷ 48 ∷ 48 ∷ 48 ∷ 48 ∷ 48 ∷ 10
+    ∷ 51 ∷ 32 ∷ 48 ∷ 32 ∷ 49 ∷ 51 ∷ 50 ∷ 48 ∷ 48 ∷ 32 ∷ 48 ∷ 32 ∷ 45 ∷ 10
+    ∷ 101 ∷ 110 ∷ 100 ∷ 32 ∷ 50 ∷ 10 ∷ []
+
+abbrev pub sameText : List ℕ → List ℕ → Bool
+sameText [] [] = true
+sameText [] (b ∷ l) = false
+sameText (a ∷ k) [] = false
+sameText (a ∷ k) (b ∷ l) = eqb a b && sameText k l
+
+unfoldable pub printsFrom : Result Connection → List ℕ → List ℕ → Bool
+unfolding replay printed
+printsFrom (accepted c) bytes out = sameText (printed (replay bytes c)) out
+printsFrom (refused n) bytes out = false
+
 unfoldable pub right : Row → Bool
-unfolding settings estimate rttFresh ptoOf within sumOf timesOf spanSumOf scaledOf laterOf nearest productOf lossDelay isLost sentNow packet control moved congestionFresh congestionEvent countLost rollback packetAcked lossTimeAndSpace rootOf toBits ofBits add sub mul div ofInt toUnsigned lt le eq secondsOf showsFrom fresh spaceFresh epochFresh sharedFresh run after step onPacketSent sentInFlight onAckReceived acknowledge ackedBy ackedSome sampled anyEliciting detectLostPackets timed factsOf timerOf spaceAt withSpace onClock isPacket isNewer isSize areRanges areSettings largestFor lastEnd covered meetAll reordered drained detect ackEach
+unfolding settings estimate rttFresh ptoOf within sumOf timesOf spanSumOf scaledOf laterOf nearest productOf lossDelay isLost sentNow packet control moved congestionFresh congestionEvent countLost rollback packetAcked lossTimeAndSpace rootOf toBits ofBits add sub mul div ofInt toUnsigned lt le eq secondsOf showsFrom printsFrom fresh spaceFresh epochFresh sharedFresh run after step onPacketSent sentInFlight onAckReceived acknowledge ackedBy ackedSome sampled anyEliciting detectLostPackets timed factsOf timerOf spaceAt withSpace onClock isPacket isNewer isSize areRanges areSettings largestFor lastEnd covered meetAll reordered drained detect ackEach
 right (estimates l smoothed rttvar pto) =
     withRtt (estimate (rttFresh settings) l) λ r. eqb (r .«smoothed_rtt» .0) smoothed && (eqb (r .rttvar .0) rttvar && isSpan pto (ptoOf r))
 right (delay l d) = withRtt (estimate (rttFresh settings) l) λ r. isSpan d (lossDelay r NineEighths)
@@ -127,6 +160,7 @@ right (windows ms window wMax) = isWindow window wMax (control ms (congestionFre
 right (earliest a b c t) = isTime t (lossTimeAndSpace (epochWith a) (epochWith b) (epochWith c) .time)
 right (root x r) = isRoot r (rootOf (floatOf x))
 right (shows l window bytes timer) = showsFrom (fresh settings) l window bytes timer
+right (prints bytes out) = printsFrom (fresh settings) bytes out
 
 -- the place of the first wrong row, from i on, or 0 where all are right
 unfoldable pub wrong : ℕ → List Row → ℕ
@@ -167,7 +201,7 @@ unfoldable pub acking : Event
 acking = acked (moment (ms 100)) 2 (0 ∷ 1 ∷ []) 0 status false Missing
 
 unfoldable pub table : List Row
-unfolding sending acking
+unfolding sending acking wholeTrace wholeOutput
 table =
     -- RTT 100 ms first: rttvar 50
     estimates (sample (ms 100) 0 false ∷ []) (ms 100) (ms 50) (ms 300)
@@ -199,6 +233,8 @@ table =
     -- the whole output's lines: sent at 0, then acked at 100 ms
     ∷ shows (sending ∷ []) 12000 1200 (At (moment 1024000000))
     ∷ shows (sending ∷ acking ∷ []) 13200 0 Unset
+    -- and its text, from the trace's bytes
+    ∷ prints wholeTrace wholeOutput
     ∷ []
 
 pub rehearsed : T (eqb (wrong 1 table) 0)
