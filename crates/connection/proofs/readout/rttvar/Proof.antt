@@ -1,0 +1,12 @@
+-- `readout::rttvar` meets its contract: the field that the definition names, for all words. Assumes nothing.
+use mathlib.Core.Path.{refl}
+use Rattle.connection.specs.View.{connectionOf}
+use Rattle.connection.proofs.readout.rttvar.Statement.{statement}
+use Rattle.connection.proofs.readout.rttvar.Tie as tie
+
+returns : tie.Need-returns
+unfolding connectionOf
+returns c = λ m. refl
+
+pub rttvar-spec : {M : Type 1} → statement M
+rttvar-spec = tie.close (tie.spec returns)

@@ -1,0 +1,5 @@
+pub mod View
+pub mod Steps
+pub mod Answers
+pub mod Decided
+pub mod Readouts
