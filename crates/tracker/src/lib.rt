@@ -9,9 +9,9 @@ use model::Shared;
 use model::Time;
 
 pub mod ack;
-mod control;
+pub mod control;
 mod decide;
-mod detect;
+pub mod detect;
 mod steps;
 
 // A loss detection: its sums, the place where it stops, the space's loss time, and the first record that stays.

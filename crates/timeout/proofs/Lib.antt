@@ -1,0 +1,5 @@
+pub mod Spaces
+pub mod Probing
+pub mod Losing
+pub mod Whole
+pub mod One

@@ -1,0 +1,4 @@
+pub mod Probe
+pub mod Loss
+pub mod Says
+pub mod Claim
