@@ -1,5 +1,5 @@
 // The tracker: acknowledgements and timeouts of a connection, on one lent array of words and a few values.
-// An event decides first, reading only, and stores when nothing can refuse any more. No public function has a `requires`.
+// An event decides first, reading only, and stores when nothing can refuse any more. The event asks nothing of its caller; what `timeout` shares does.
 use connection::SpaceState;
 use marks::LostTally;
 use model::OnAckReceivedOutcome;
