@@ -1,0 +1,4 @@
+pub mod Records
+pub mod Gathered
+pub mod Spaces
+pub mod Flight
