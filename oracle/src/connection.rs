@@ -47,8 +47,31 @@ pub struct Oracle {
     recovery: LegacyRecovery,
 }
 
-fn epoch(space: u8) -> Epoch {
+pub(crate) fn epoch(space: u8) -> Epoch {
     EPOCHS[usize::from(space)]
+}
+
+/// The real recovery with 01's settings, and those that 01 doesn't have as it wants them.
+pub(crate) fn recovery(settings: &Settings) -> LegacyRecovery {
+    LegacyRecovery::new_with_config(&RecoveryConfig {
+        initial_rtt: Duration::from_nanos(settings.initial_rtt),
+        max_send_udp_payload_size: settings.datagram_size as usize,
+        max_ack_delay: Duration::from_nanos(settings.max_ack_delay),
+        cc_algorithm: CongestionControlAlgorithm::CUBIC,
+        hystart: false,
+        pacing: false,
+        max_pacing_rate: None,
+        initial_congestion_window_packets: settings.initial_packets as usize,
+        enable_relaxed_loss_threshold: false,
+        enable_cubic_idle_restart_fix: true,
+    })
+}
+
+/// Words are starts and ends in turn.
+pub(crate) fn range_set(words: &[u64]) -> RangeSet {
+    let mut ranges = RangeSet::default();
+    words.chunks(2).for_each(|r| ranges.insert(r[0]..r[1]));
+    ranges
 }
 
 impl From<Status> for HandshakeStatus {
@@ -65,22 +88,10 @@ impl Oracle {
     /// Refuses with 2 a setting outside its range.
     pub fn new(settings: Settings) -> Result<Oracle, Refusal> {
         let settings = settings.judged()?;
-        let config = RecoveryConfig {
-            initial_rtt: Duration::from_nanos(settings.initial_rtt),
-            max_send_udp_payload_size: settings.datagram_size as usize,
-            max_ack_delay: Duration::from_nanos(settings.max_ack_delay),
-            cc_algorithm: CongestionControlAlgorithm::CUBIC,
-            hystart: false,
-            pacing: false,
-            max_pacing_rate: None,
-            initial_congestion_window_packets: settings.initial_packets as usize,
-            enable_relaxed_loss_threshold: false,
-            enable_cubic_idle_restart_fix: true,
-        };
         Ok(Oracle {
             settings,
             front: Front::default(),
-            recovery: LegacyRecovery::new_with_config(&config),
+            recovery: recovery(&settings),
         })
     }
 
@@ -194,6 +205,11 @@ impl Oracle {
         self.front.last_now()
     }
 
+    /// The largest number sent in a space, discarded or not.
+    pub fn last_sent(&self, space: u8) -> Option<u64> {
+        self.front.last_sent(space)
+    }
+
     pub fn window(&self) -> u64 {
         self.recovery.cwnd() as u64
     }
@@ -233,8 +249,7 @@ impl Oracle {
     }
 
     fn apply_ack(&mut self, now: u64, ack: &Ack, words: &[u64], status: Status) -> Answer {
-        let mut ranges = RangeSet::default();
-        words.chunks(2).for_each(|r| ranges.insert(r[0]..r[1]));
+        let ranges = range_set(words);
         let skipped = Some(ack.skipped).filter(|&n| n != NONE_SKIPPED);
         self.recovery.update_app_limited(ack.limited);
         let outcome = self
@@ -312,7 +327,7 @@ impl Oracle {
     }
 }
 
-fn sent_packet(now: u64, packet: &Packet) -> Sent {
+pub(crate) fn sent_packet(now: u64, packet: &Packet) -> Sent {
     let now = instant(now);
     let handle = Some(Frame(packet.handle)).filter(|h| h.0 != 0);
     Sent {

@@ -99,6 +99,10 @@ impl Front {
     pub fn last_now(&self) -> u64 {
         self.last_now
     }
+
+    pub fn last_sent(&self, space: u8) -> Option<u64> {
+        self.last_sent[usize::from(space)]
+    }
 }
 
 /// Refusal 4, turned round, over the whole list.

@@ -5,6 +5,8 @@
 //! `Snapshot` is everything it holds, every field comparable. Around it stand the
 //! trace format, the replay, the judge of 01's domain and the trace generator.
 
+pub mod alone;
+pub mod arguments;
 pub mod bench;
 pub mod careful;
 pub mod cases;
@@ -15,6 +17,7 @@ pub mod event;
 pub mod exact_root;
 pub mod front;
 pub mod generate;
+pub mod inspect;
 pub mod moment;
 pub mod replay;
 pub mod root;

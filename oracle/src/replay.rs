@@ -2,6 +2,7 @@
 
 use crate::connection::{Answer, Oracle, Outcome};
 use crate::event::Event;
+use crate::inspect;
 use crate::settings::Settings;
 use crate::snapshot::or_dash;
 use crate::trace::{BadAt, HeldRanges, Reader, LONGEST_TRACE};
@@ -78,6 +79,8 @@ pub enum Print {
     Lines,
     /// And, below each line, the answer and everything the oracle holds.
     All,
+    /// And, behind each line, the words of program `inspect`.
+    Inspected,
 }
 
 fn answer_line(outcome: &Outcome) -> String {
@@ -119,6 +122,9 @@ pub fn replayed(trace: &[u8], print: Print) -> String {
         };
         accepted += u64::from(outcome.is_ok());
         out.push_str(&player.line(&event, &outcome));
+        if print == Print::Inspected {
+            out.push_str(&inspect::words(&outcome, &player.oracle.snapshot()));
+        }
         out.push('\n');
         if print == Print::All {
             out.push_str(&answer_line(&outcome));

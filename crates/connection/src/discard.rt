@@ -5,6 +5,7 @@ use crate::SpaceState;
 use crate::State;
 use crate::parts::Timing;
 use crate::parts::in_time;
+use crate::parts::less;
 use crate::parts::refused;
 use crate::parts::space_at;
 use crate::parts::timed;
@@ -53,13 +54,6 @@ fn emptied(p: SpaceState) -> SpaceState
             largest_sent_packet: sent,
         },
     }
-}
-
-// What is left of the bytes in flight, not below 0.
-fn less(a: u64, b: u64) -> u64
-    ensures { λ r. ⌜ r ≡ a - b ⌝ }
-{
-    if a < b { 0 } else { a - b }
 }
 
 // What the spaces share, less bytes in flight and with the clock at time.

@@ -1,10 +1,10 @@
 // A connection that nothing has happened to.
 use crate::SpaceState;
 use crate::State;
-use crate::resize::is_datagram_size;
 use arith::round::TimeThreshold;
 use arith::time::Moment;
 use estimate::rtt::rtt_fresh;
+use front::settings::are_settings;
 use model::Congestion;
 use model::Cubic;
 use model::Epoch;
@@ -17,7 +17,6 @@ use model::Shared;
 use model::Time;
 ghost use mathlib.Core.Path.{_≡_};
 ghost use Prim.Native.Nat.{_*_, _≤_};
-ghost use Rattle.model.specs.Numbers.{areSettings};
 ghost use Rattle.model.specs.Cubic.{congestionFresh};
 ghost use Rattle.model.specs.Connection.{sharedFresh};
 ghost use Rattle.connection.specs.Steps.{spaceStateFresh};
@@ -29,45 +28,10 @@ pub enum Begun {
     Refused(Refusal),
 }
 
-// Packets of the initial window, the initial RTT and max ack delay, in nanoseconds. 01 The stage numbers
-const MIN_WINDOW_PACKETS: u64 = 2;
-
-const MAX_WINDOW_PACKETS: u64 = 100;
-
-const MIN_INITIAL_RTT: u64 = 1000000;
-
-const MAX_INITIAL_RTT: u64 = 10000000000;
-
-const MAX_MAX_ACK_DELAY: u64 = 16383000000;
-
 // The packet threshold, and the threshold of slow start, at the start. 01 The stage numbers; CUBIC (001)
 const INITIAL_PACKET_THRESHOLD: u64 = 3;
 
 const UNBOUNDED: u64 = u64::MAX;
-
-// Whether refusal 2 spares the settings. 01 The stage numbers
-fn are_settings(s: Settings) -> bool
-    ensures { λ r. ⌜ r ≡ areSettings s ⌝ }
-{
-    let initial_rtt = s.initial_rtt;
-    let max_ack_delay = s.max_ack_delay;
-    if !is_datagram_size(s.max_datagram_size) {
-        return false;
-    }
-    if s.initial_window_packets < MIN_WINDOW_PACKETS {
-        return false;
-    }
-    if MAX_WINDOW_PACKETS < s.initial_window_packets {
-        return false;
-    }
-    if initial_rtt.0 < MIN_INITIAL_RTT {
-        return false;
-    }
-    if MAX_INITIAL_RTT < initial_rtt.0 {
-        return false;
-    }
-    max_ack_delay.0 <= MAX_MAX_ACK_DELAY
-}
 
 // The controller before any loss. 01 CUBIC (001)
 fn congestion_fresh(s: Settings) -> Congestion

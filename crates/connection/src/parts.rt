@@ -3,10 +3,11 @@ use crate::Answer;
 use crate::Outcome;
 use crate::SpaceState;
 use crate::State;
-use arith::time::LIMIT;
 use arith::time::Moment;
 use estimate::timer::Armed;
 use estimate::timer::set_loss_detection_timer;
+use front::clock::on_clock;
+use model::Epoch;
 use model::HandshakeStatus;
 use model::Refusal;
 use model::Shared;
@@ -15,9 +16,10 @@ use model::TimerFacts;
 use records::memory::CAPACITY;
 use records::memory::held;
 ghost use mathlib.Core.Path.{_≡_};
+ghost use Prim.Native.Nat.{_-_};
 ghost use Rattle.model.specs.Numbers.{onClock};
 ghost use Rattle.connection.specs.View.{normalOf, spaceStateAt, withSpaceState};
-ghost use Rattle.connection.specs.Steps.{factsState, armed, timedState};
+ghost use Rattle.connection.specs.Steps.{probedSpace, factsState, armed, timedState};
 ghost use Rattle.connection.specs.Answers.{refusedBy, timedSays};
 
 // The state with its timer set, or refusal 7.
@@ -88,6 +90,32 @@ pub fn with_space(s: State, n: u64, p: SpaceState, shared: Shared) -> State
     }
 }
 
+// The space with other probes and so many handles in its PTO queue.
+pub fn with_probes(p: SpaceState, probes: u64, lost_pto: usize) -> SpaceState
+    ensures { λ r. ⌜ r ≡ probedSpace probes «lost_pto» p ⌝ }
+{
+    let epoch = p.epoch;
+    let last = epoch.time_of_last_ack_eliciting_packet;
+    let acked = epoch.largest_acked_packet;
+    let loss_time = epoch.loss_time;
+    let sent = epoch.largest_sent_packet;
+    SpaceState {
+        head: p.head,
+        len: p.len,
+        acked: p.acked,
+        lost_ack: p.lost_ack,
+        lost_pto: lost_pto,
+        epoch: Epoch {
+            time_of_last_ack_eliciting_packet: last,
+            largest_acked_packet: acked,
+            loss_time: loss_time,
+            loss_probes: probes,
+            in_flight_count: epoch.in_flight_count,
+            largest_sent_packet: sent,
+        },
+    }
+}
+
 // What the timer goes by.
 pub fn facts(s: State, now: Moment, status: HandshakeStatus) -> TimerFacts
     ensures { λ r. ⌜ r ≡ factsState now status s ⌝ }
@@ -152,6 +180,13 @@ pub fn timed(s: State, now: Moment, status: HandshakeStatus) -> Timing
     Timing::Accepted(with_timer(s, t))
 }
 
+// What is left of a, not below 0.
+pub fn less(a: u64, b: u64) -> u64
+    ensures { λ r. ⌜ r ≡ a - b ⌝ }
+{
+    if a < b { 0 } else { a - b }
+}
+
 // The answer of an event that refusal k turns down.
 pub fn refused(s: State, k: Refusal) -> Answer
     ensures { λ r. ⌜ r ≡ refusedBy k s ⌝ }
@@ -162,17 +197,7 @@ pub fn refused(s: State, k: Refusal) -> Answer
     }
 }
 
-// Whether refusal 1 spares a moment, after the clock's. 01 The stage numbers
-pub fn on_clock(clock: Moment, now: Moment) -> bool
-    ensures { λ r. ⌜ r ≡ onClock clock now ⌝ }
-{
-    if clock.0 <= now.0 {
-        return now.0 <= LIMIT;
-    }
-    false
-}
-
-// The same, after the clock of a state.
+// Whether refusal 1 spares a moment, after the clock of a state. 01 The stage numbers
 pub fn in_time(s: State, now: Moment) -> bool
     ensures { λ r. ⌜ r ≡ onClock (s .shared .clock) now ⌝ }
 {

@@ -5,34 +5,19 @@ use crate::State;
 use crate::parts::refused;
 use congestion::Moved;
 use congestion::growth::resized;
+use front::settings::is_datagram_size;
 use model::Congestion;
 use model::Refusal;
 use model::Shared;
 ghost use mathlib.Core.Path.{_≡_};
 ghost use mathlib.Core.List.{List};
 ghost use Prim.Native.Nat.{ℕ};
-ghost use Rattle.model.specs.Numbers.{isDatagramSize};
 ghost use Rattle.model.specs.Cubic as cubic;
 ghost use Rattle.model.specs.Events.{onSizeChange};
 ghost use Rattle.congestion.specs.Says.{movedSays};
 ghost use Rattle.connection.specs.View.{connectionOf, Does};
 ghost use Rattle.connection.specs.Steps.{sharedSized, withSharedState};
 ghost use Rattle.connection.specs.Answers.{outcomeSays, sharedBy};
-
-// Bytes of a datagram. 01 The stage numbers
-pub const MIN_DATAGRAM_SIZE: u64 = 1200;
-
-pub const MAX_DATAGRAM_SIZE: u64 = 65527;
-
-// Whether refusal 2 spares a datagram size. 01 The stage numbers
-pub fn is_datagram_size(size: u64) -> bool
-    ensures { λ r. ⌜ r ≡ isDatagramSize size ⌝ }
-{
-    if size < MIN_DATAGRAM_SIZE {
-        return false;
-    }
-    size <= MAX_DATAGRAM_SIZE
-}
 
 // The state with another size and controller.
 fn sized(s: State, size: u64, g: Congestion) -> State

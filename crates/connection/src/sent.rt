@@ -13,6 +13,8 @@ use crate::parts::with_space;
 use arith::time::Moment;
 use arith::time::Sum;
 use arith::time::add_up;
+use front::packet::is_newer;
+use front::packet::is_packet;
 use model::Epoch;
 use model::HandshakeStatus;
 use model::Number;
@@ -30,53 +32,16 @@ ghost use Prim.Native.Nat.{_+_, _%_, _≤_};
 ghost use lib.Dec.{ltb};
 ghost use Rattle.arith.specs.Whole.{sumOf};
 ghost use Rattle.model.specs.Numbers.{capacity};
-ghost use Rattle.model.specs.Events.{isNewer, isPacket, epochSent, sharedSent, onPacketSent};
+ghost use Rattle.model.specs.Events.{isNewer, epochSent, sharedSent, onPacketSent};
 ghost use Rattle.connection.specs.View.{count, connectionOf, normalOf, spaceStateAt, withSpaceState, stateBy, Does};
 ghost use Rattle.connection.specs.Steps.{sentSpace, runOf, sentBoth, sendState};
 ghost use Rattle.connection.specs.Answers.{outcomeSays, sentWords};
 ghost use Rattle.connection.specs.Decided.{sendingSays};
 
-// The largest size of a packet, in bytes; 2^62, which packet numbers are below. 01 The stage numbers
-const MAX_SIZE: u64 = 65527;
-
-const NUMBERS: u64 = 4611686018427387904;
-
 // The state after a packet that may be sent, but for its record.
 enum Sending {
     Accepted(State),
     Refused(Refusal),
-}
-
-// Whether refusal 3 spares a number. 01 The stage numbers
-fn is_newer(last: Number, number: u64) -> bool
-    ensures { λ r. ⌜ r ≡ isNewer last number ⌝ }
-{
-    match last {
-        Number::Is(n) => n < number,
-        Number::Missing => true,
-    }
-}
-
-// Whether refusal 2 spares a packet of space n. 01 The stage numbers
-fn is_packet(n: u64, p: Packet) -> bool
-    ensures { λ r. ⌜ r ≡ isPacket n p ⌝ }
-{
-    if 3 <= n {
-        return false;
-    }
-    if p.size < 1 {
-        return false;
-    }
-    if MAX_SIZE < p.size {
-        return false;
-    }
-    if NUMBERS <= p.number {
-        return false;
-    }
-    if p.is_pmtud_probe {
-        return p.in_flight;
-    }
-    true
 }
 
 // The run of packets that elicit no ack. 01 Timer and PTO (000)

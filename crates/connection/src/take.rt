@@ -5,11 +5,12 @@ use crate::SpaceState;
 use crate::State;
 use crate::Taken;
 use crate::Taking;
+use crate::parts::less;
 use crate::parts::normal;
 use crate::parts::refused;
 use crate::parts::space_at;
+use crate::parts::with_probes;
 use crate::parts::with_space;
-use model::Epoch;
 use model::Refusal;
 use records::memory::Words;
 use records::queue::newest_handle;
@@ -18,7 +19,7 @@ ghost use mathlib.Core.List.{List};
 ghost use Prim.Native.Nat.{ℕ, _-_};
 ghost use Rattle.model.specs.Events.{nextAckedFrame, nextLostFrame, pingSent};
 ghost use Rattle.connection.specs.View.{connectionOf, withSpaceState, stateBy, Does};
-ghost use Rattle.connection.specs.Steps.{withCounts, probedSpace};
+ghost use Rattle.connection.specs.Steps.{withCounts};
 ghost use Rattle.connection.specs.Answers.{outcomeSays, takenSays};
 
 // The queues of a space: handles of acked packets, of packets lost by an ACK, of packets sent again on a PTO.
@@ -30,12 +31,6 @@ const LOST_FRAMES_PTO: u64 = 2;
 
 // One less, not below 0.
 fn one_less(n: usize) -> usize
-    ensures { λ r. ⌜ r ≡ n - 1 ⌝ }
-{
-    if n == 0 { 0 } else { n - 1 }
-}
-
-fn one_less_probe(n: u64) -> u64
     ensures { λ r. ⌜ r ≡ n - 1 ⌝ }
 {
     if n == 0 { 0 } else { n - 1 }
@@ -109,32 +104,6 @@ pub fn next_lost_frame(m: &Words, s: State, n: u64) -> Taking
     }
 }
 
-// The space with other probes.
-fn with_probes(p: SpaceState, probes: u64) -> SpaceState
-    ensures { λ r. ⌜ r ≡ probedSpace probes (p .«lost_pto») p ⌝ }
-{
-    let epoch = p.epoch;
-    let last = epoch.time_of_last_ack_eliciting_packet;
-    let acked = epoch.largest_acked_packet;
-    let loss_time = epoch.loss_time;
-    let sent = epoch.largest_sent_packet;
-    SpaceState {
-        head: p.head,
-        len: p.len,
-        acked: p.acked,
-        lost_ack: p.lost_ack,
-        lost_pto: p.lost_pto,
-        epoch: Epoch {
-            time_of_last_ack_eliciting_packet: last,
-            largest_acked_packet: acked,
-            loss_time: loss_time,
-            loss_probes: probes,
-            in_flight_count: epoch.in_flight_count,
-            largest_sent_packet: sent,
-        },
-    }
-}
-
 // A ping takes one probe. Refusal 2: the space. 01 Timer and PTO (000); 000 ping_sent
 pub fn ping_sent(s: State, n: u64) -> Answer
     ensures { λ r. ⌜ ((m : List ℕ) → Does (pingSent n (connectionOf m s)) (outcomeSays (r .outcome)) m m s (r .state) (stateBy s n 0) (λ _. m)) ⌝ }
@@ -145,7 +114,7 @@ pub fn ping_sent(s: State, n: u64) -> Answer
     let shared = s.shared;
     let p = normal(space_at(s, n));
     let epoch = p.epoch;
-    let q = with_probes(p, one_less_probe(epoch.loss_probes));
+    let q = with_probes(p, less(epoch.loss_probes, 1), p.lost_pto);
     Answer {
         outcome: Outcome::Accepted,
         state: with_space(s, n, q, shared),

@@ -2,3 +2,14 @@ pub mod Peel
 pub mod Moves
 pub mod Events
 pub mod Promises
+pub mod Counts
+pub mod Sending
+pub mod Told
+pub mod Beta
+pub mod Remains
+pub mod Spaces
+pub mod Detecting
+pub mod Acking
+pub mod TimingOut
+pub mod Counted
+pub mod Strength

@@ -14,3 +14,5 @@ pub mod Trace
 pub mod History
 pub mod Promises
 pub mod Rehearsals
+pub mod Strength
+pub mod Turns

@@ -20,6 +20,7 @@ use Rattle.model.specs.declared.OnLossDetectionTimeoutOutcome.{OnLossDetectionT
 use Rattle.model.specs.declared.Refusal.{Refusal}
 use Rattle.model.specs.declared.Shared.{Shared}
 use Rattle.model.specs.declared.Time.{Time}
+use Rattle.model.proofs.Peel.{all-then, no-value}
 use Rattle.records.specs.View.{allWords, ring, recordsOf, queueOf}
 use Rattle.records.proofs.Laws.{length-queue}
 use Rattle.records.proofs.Rings.{ring-ext, length-ring}
@@ -38,12 +39,12 @@ use Rattle.connection.proofs.Steps.{normal-view, timed-view}
 use Rattle.connection.proofs.Placed.{Fits, Each, Placed, placed-view, armed-space, one-each, then-each, does-refused, does-accepted}
 use Rattle.tracker.specs.Plan.{ackedPlace, settledPlace, planLosses}
 use Rattle.tracker.specs.declared.Losses.{Losses}
+use Rattle.tracker.proofs.Chains.{then-then}
 use Rattle.tracker.proofs.Detecting.{Ends, ends, losses-view, before, after, detection}
 use Rattle.tracker.proofs.Kept.{stored, kept-view, whole-kept}
 use Rattle.timeout.specs.Loss.{lostSpace, lostShared, lostMoves, planLost, planLoss}
 use Rattle.timeout.specs.Claim.{lossWords}
 use Rattle.timeout.specs.declared.loss.LossStep.{LossStep}
-use Rattle.timeout.proofs.Spaces.{none, then-then, then-each′}
 
 -- a step in between that refuses nothing
 through : {A B C : Type 0} (x : Result A) (f : A → B) (k : B → Result C) → then (then x (λ a. accepted (f a))) k ≡ then x (λ a. k (f a))
@@ -212,7 +213,7 @@ module _ (m : List ℕ) (full : length m ≡ allWords) (n : ℕ) (nn : n < 3) (s
     lapsed : Each Lapsed (planLoss m n fs now status s)
     unfolding planLoss planLost timedState
     lapsed =
-        then-each′ Lapsed (planLosses m n q fs now (s .shared .rtt) (s .shared .reordering) (q .epoch .«largest_acked_packet») (q .epoch .«in_flight_count») 0) _ λ l e.
+        all-then Lapsed (planLosses m n q fs now (s .shared .rtt) (s .shared .reordering) (q .epoch .«largest_acked_packet») (q .epoch .«in_flight_count») 0) _ λ l e.
         let en = ends m n q fs now (s .shared .rtt) (s .shared .reordering) (q .epoch .«largest_acked_packet») (q .epoch .«in_flight_count») 0 first-place l e in
         then-each Lapsed (control (lostMoves now l) (s .shared .congestion)) _ λ g.
         ap-each l en (lostShared now l g (s .shared)) (timerOf _)
@@ -220,7 +221,7 @@ module _ (m : List ℕ) (full : length m ≡ allWords) (n : ℕ) (nn : n < 3) (s
         ap-each : (l : Losses) → Ends m n q fs now (s .shared .rtt .«smoothed_rtt») 0 l → (shared : Shared) (x : Result Time) →
             Each Lapsed (then (then x (λ t. accepted (armed t (withSpaceState n (lostSpace q l) shared s)))) (λ t. accepted (record { losses = l; state = t })))
         ap-each l en shared (accepted t) = one-each Lapsed _ (timed-lapsed l en shared t)
-        ap-each l en shared (refused k) = none Lapsed
+        ap-each l en shared (refused k) = λ a e. no-value e
 
     pub loss-does : {d : LossStep} {m′ : List ℕ} {r : Queues} → planLoss m n fs now status s ≡ accepted d → now .0 ≤ limit →
         Committed m n (q .head) (q .len) fs 0 0 (d .losses .stop) (d .losses .keep) now (q .acked) (q .«lost_ack») m′ r →
@@ -251,7 +252,3 @@ unflagged i = ap (λ (x : ℕ). eqb x 1) (zero-at 256 i)
 -- round the ring
 pub around : (a b : ℕ) → (a % 256 + b % 256) % 256 ≡ (a + b) % 256
 around a b = omega arith
-
-pub normal-len : (x : SpaceState) → normalOf x .len ≤ capacity
-unfolding normalOf
-normal-len x = omega arith

@@ -3,7 +3,7 @@ use mathlib.Core.Path.{_≡_, refl, ap, sym, _∙_}
 use mathlib.Core.Bool.{true, false, cond}
 use mathlib.Core.List.{List, [], _∷_, _++_, append-nil}
 use mathlib.Core.Logic.{⊎-elim, _≢_}
-use Prim.Native.Nat.{ℕ, _+_, _-_, _<_, _≤_, _%_, min}
+use Prim.Native.Nat.{ℕ, _+_, _<_, _≤_, _%_, min}
 use native.Mathlib.Nat.{eq-zero-or-pos}
 use native.Mathlib.Omega.{arith}
 use borrow.Author.Tests.{eq-eqb, ne-eqb, le-leb, lt-leb}
@@ -22,6 +22,8 @@ use Rattle.model.specs.declared.Refusal.the-variants.{TooLarge}
 use Rattle.model.specs.declared.Sent.{Sent}
 use Rattle.model.specs.declared.Shared.{Shared}
 use Rattle.model.specs.declared.Time.{Time}
+use Rattle.model.proofs.Peel.{no-value}
+use Rattle.model.proofs.Spaces.{probe-small}
 use Rattle.records.specs.View.{allWords, recordsOf, queueOf}
 use Rattle.records.specs.Probes.{probesOf, storeAll, StoredFrom}
 use Rattle.records.proofs.Laws.{records-mod, length-records, length-queue}
@@ -34,10 +36,10 @@ use Rattle.connection.proofs.Views.{by-space, space-view, state-view}
 use Rattle.connection.proofs.Steps.{timed-view}
 use Rattle.connection.proofs.Results.{cond-then}
 use Rattle.connection.proofs.Placed.{Fits, Each, one-each, cond-each, then-each, placed-view, armed-space, does-refused, does-accepted}
+use Rattle.tracker.proofs.Chains.{then-then}
 use Rattle.timeout.specs.Probe.{raised, grantedState, planGranted, planProbe, queuedAgain, probedWords, probedState, Probing}
 use Rattle.timeout.specs.Claim.{spaceBy, probeAt, probeWords}
 use Rattle.timeout.specs.declared.probe.Probes.{Probes}
-use Rattle.timeout.proofs.Spaces.{none, then-then, probe-space}
 
 -- ---- the PTO queue
 
@@ -179,7 +181,7 @@ module _ (m : List ℕ) (full : length m ≡ allWords) (now : Moment) (status : 
   unfolding timeoutProbe planProbe factsOf factsState connectionOf
   probe-view =
       then-then probedStep (probeSpace (factsState now status s)) _ _ λ n e.
-      cond-then probedStep (leb (s .shared .«pto_count» + 1) 4294967295) _ _ _ _ (granted-view n (probe-space _ n e) (s .shared .«pto_count» + 1)) refl
+      cond-then probedStep (leb (s .shared .«pto_count» + 1) 4294967295) _ _ _ _ (granted-view n (probe-small _ n e) (s .shared .«pto_count» + 1)) refl
 
   -- the space that was decided on
   abbrev Chosen : Probes → Type 0
@@ -194,9 +196,9 @@ module _ (m : List ℕ) (full : length m ≡ allWords) (now : Moment) (status : 
           (then x λ n. cond (leb (s .shared .«pto_count» + 1) 4294967295) (planGranted now status n (s .shared .«pto_count» + 1) s) (refused TooLarge))
       go (accepted n) e =
           cond-each (λ p. (n ≡ p .space) × (p .space < 3)) (leb (s .shared .«pto_count» + 1) 4294967295) _ _
-          (then-each (λ p. (n ≡ p .space) × (p .space < 3)) (timerOf _) _ λ t. one-each (λ p. (n ≡ p .space) × (p .space < 3)) _ (refl, probe-space _ n e))
-          (none (λ p. (n ≡ p .space) × (p .space < 3)))
-      go (refused k) e = none (λ p. (0 ≡ p .space) × (p .space < 3))
+          (then-each (λ p. (n ≡ p .space) × (p .space < 3)) (timerOf _) _ λ t. one-each (λ p. (n ≡ p .space) × (p .space < 3)) _ (refl, probe-small _ n e))
+          (λ a f. no-value f)
+      go (refused k) e = λ a f. no-value f
 
   pub probe-does : {p : Probes} {m′ : List ℕ} {t : State} → planProbe now status s ≡ accepted p → Probing m s p m′ t →
       Does (timeoutProbe now status (connectionOf m s)) (accepted (timeoutOutcome 0 0)) m m′ s t (stateBy s (probeAt now status s) 0) (probeWords m (probeAt now status s) s)

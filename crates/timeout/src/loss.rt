@@ -8,28 +8,28 @@ use congestion::Moved;
 use connection::SpaceState;
 use connection::State;
 use connection::parts::Timing;
+use connection::parts::less;
 use connection::parts::normal;
 use connection::parts::space_at;
 use connection::parts::timed;
 use connection::parts::with_space;
 use model::Congestion;
-use model::Epoch;
 use model::HandshakeStatus;
 use model::OnLossDetectionTimeoutOutcome;
 use model::Refusal;
-use model::Time;
 use records::memory::CAPACITY;
 use records::memory::Words;
 use records::memory::full;
 use tracker::LossPlan;
 use tracker::Losses;
 use tracker::control::after_losses;
-use tracker::detect::plan_losses;
+use tracker::detect::plan_all_losses;
+use tracker::steps::epoch_detected;
 ghost use mathlib.Core.Path.{_≡_};
 ghost use mathlib.Core.Bool.{false};
 ghost use Prim.Native.Nat.{ℕ, _-_, _≤_, _<_};
 ghost use Rattle.arith.specs.Whole.{limit};
-ghost use Rattle.model.specs.Events.{epochDetected, timeoutLoss};
+ghost use Rattle.model.specs.Events.{timeoutLoss};
 ghost use Rattle.marks.specs.Marks.{flagged};
 ghost use Rattle.connection.specs.View.{connectionOf, withSpaceState, stateBy, Does};
 ghost use Rattle.timeout.specs.Loss.{lostSpace, lostShared, planLost, planLoss};
@@ -55,29 +55,6 @@ fn records_left(a: usize, b: usize) -> usize
     if a < b { 0 } else { a - b }
 }
 
-fn less(a: u64, b: u64) -> u64
-    ensures { λ r. ⌜ r ≡ a - b ⌝ }
-{
-    if a < b { 0 } else { a - b }
-}
-
-// What the space keeps beside its records, after a detection.
-fn epoch_lost(e: Epoch, in_flight: u64, loss_time: Time) -> Epoch
-    ensures { λ r. ⌜ r ≡ epochDetected «in_flight» «loss_time» e ⌝ }
-{
-    let last = e.time_of_last_ack_eliciting_packet;
-    let acked = e.largest_acked_packet;
-    let sent = e.largest_sent_packet;
-    Epoch {
-        time_of_last_ack_eliciting_packet: last,
-        largest_acked_packet: acked,
-        loss_time: loss_time,
-        loss_probes: e.loss_probes,
-        in_flight_count: in_flight,
-        largest_sent_packet: sent,
-    }
-}
-
 // The space after a detection: the drained have left it, and handles of the lost wait.
 fn lost_space(q: SpaceState, l: Losses) -> SpaceState
     ensures { λ r. ⌜ r ≡ lostSpace q l ⌝ }
@@ -91,7 +68,7 @@ fn lost_space(q: SpaceState, l: Losses) -> SpaceState
         acked: q.acked,
         lost_ack: tally.queued as usize,
         lost_pto: q.lost_pto,
-        epoch: epoch_lost(epoch, tally.in_flight, loss_time),
+        epoch: epoch_detected(epoch, tally.in_flight, loss_time),
     }
 }
 
@@ -147,10 +124,10 @@ fn plan_loss(
     let shared = s.shared;
     let rtt = shared.rtt;
     let reordering = shared.reordering;
-    let q = normal(space_at(s, n));
+    let q = space_at(s, n);
     let epoch = q.epoch;
     let largest = epoch.largest_acked_packet;
-    match plan_losses(
+    match plan_all_losses(
         m,
         n,
         q,
@@ -160,7 +137,6 @@ fn plan_loss(
         reordering,
         largest,
         epoch.in_flight_count,
-        0,
     ) {
         LossPlan::Refused(k) => LossTimeout::Refused(k),
         LossPlan::Ends(l) => plan_lost(s, time, n, status, l),
@@ -175,7 +151,7 @@ fn no_flags() -> [u8; 256]
 }
 
 // A timeout with a loss time, whose space is n. Refusals 6 and 7. 01 Timer and PTO (000); 000 on_loss_detection_timeout; RFC 9002 section 6.1.2
-pub fn loss_timeout(
+pub(crate) fn loss_timeout(
     m: &mut Words,
     s: State,
     time: Moment,

@@ -8,12 +8,12 @@ use connection::State;
 use connection::parts::facts;
 use connection::parts::normal;
 use connection::parts::space_at;
+use connection::parts::with_probes;
 use connection::parts::with_space;
 use estimate::timer::Armed;
 use estimate::timer::Probed;
 use estimate::timer::probe_space;
 use estimate::timer::set_loss_detection_timer;
-use model::Epoch;
 use model::HandshakeStatus;
 use model::OnLossDetectionTimeoutOutcome;
 use model::Refusal;
@@ -28,7 +28,6 @@ ghost use Rattle.model.specs.Connection.{withTimer};
 ghost use Rattle.model.specs.Events.{timeoutProbe};
 ghost use Rattle.records.specs.Probes.{StoredFrom};
 ghost use Rattle.connection.specs.View.{connectionOf, stateBy, Does};
-ghost use Rattle.connection.specs.Steps.{probedSpace};
 ghost use Rattle.timeout.specs.Probe.{raised, grantedState, planProbe, queuedAgain, Probing};
 ghost use Rattle.timeout.specs.Says.{probePlanSays, timeoutSays};
 ghost use Rattle.timeout.specs.Claim.{probeAt, probeWords};
@@ -62,32 +61,6 @@ fn shared_raised(s: Shared, time: Moment, count: u64, timer: Time) -> Shared
 {
     let congestion = s.congestion;
     shared_after(s, time, count, s.bytes_in_flight, congestion, timer)
-}
-
-// The space with these probes and so many handles in its PTO queue.
-fn with_probes(p: SpaceState, probes: u64, lost_pto: usize) -> SpaceState
-    ensures { λ r. ⌜ r ≡ probedSpace probes «lost_pto» p ⌝ }
-{
-    let epoch = p.epoch;
-    let last = epoch.time_of_last_ack_eliciting_packet;
-    let acked = epoch.largest_acked_packet;
-    let loss_time = epoch.loss_time;
-    let sent = epoch.largest_sent_packet;
-    SpaceState {
-        head: p.head,
-        len: p.len,
-        acked: p.acked,
-        lost_ack: p.lost_ack,
-        lost_pto: lost_pto,
-        epoch: Epoch {
-            time_of_last_ack_eliciting_packet: last,
-            largest_acked_packet: acked,
-            loss_time: loss_time,
-            loss_probes: probes,
-            in_flight_count: epoch.in_flight_count,
-            largest_sent_packet: sent,
-        },
-    }
 }
 
 // The state with the PTO count risen to count and space n granted its probes, the timer and the queues as they were.

@@ -30,6 +30,7 @@ use Rattle.model.specs.declared.Sent.{Sent}
 use Rattle.records.specs.View.{allWords, ring, recordsOf, queueOf}
 use Rattle.records.proofs.Laws.{length-queue}
 use Rattle.records.proofs.Rings.{length-ring}
+use Rattle.front.specs.Checked.{checkedAck}
 use Rattle.marks.specs.Marks.{flagged, heldAt, settledAt, newlyOf, handlesOf, standingOf}
 use Rattle.marks.specs.Survey.{survey}
 use Rattle.marks.specs.declared.Covered.{Covered}
@@ -49,7 +50,7 @@ use Rattle.connection.specs.declared.State.{State}
 use Rattle.connection.proofs.Results.{must-then, reach-then}
 use Rattle.connection.proofs.Placed.{Fits, Each, placed-view, one-each, cond-each, then-each, does-refused}
 use Rattle.tracker.specs.declared.Plan.{Plan}
-use Rattle.tracker.specs.Event.{checkedAck, ackWords}
+use Rattle.tracker.specs.Event.{ackWords}
 use Rattle.tracker.specs.Plan.{Shown, shown, onSurvey, startTally, keptSpace, flags, held, sampledBy, planLosses, planNothing, planTimed, planSome, planMet, planAck}
 use Rattle.tracker.proofs.Detecting as detecting
 use Rattle.tracker.proofs.Kept.{stored, keptAs, kept-view}

@@ -17,8 +17,14 @@ use Rattle.acks.specs.Places.{placesOf, flagsTo, heldTo}
 use Rattle.acks.proofs.Laws.{survey-past}
 use Rattle.losses.specs.Drain.{drainedTo}
 use Rattle.losses.proofs.Laws.{drained-to}
+use Rattle.connection.specs.View.{normalOf}
 use Rattle.connection.specs.declared.SpaceState.{SpaceState}
 use Rattle.tracker.specs.Plan.{startTally, flags, held, ackedPlace, firstLeft}
+
+-- counts in their ranges
+pub normal-len : (x : SpaceState) → normalOf x .len ≤ capacity
+unfolding normalOf
+normal-len x = omega arith
 
 -- a place counts round the ring
 pub record-place : (m : List ℕ) (n h i : ℕ) → recordAt m n (h + i % capacity) ≡ recordAt m n (h + i)

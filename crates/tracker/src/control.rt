@@ -45,7 +45,7 @@ pub fn after_losses(g: Congestion, time: Moment, l: LostTally) -> Moved
 }
 
 // CUBIC per acked packet in order, over the records before place last. 01 Acknowledgement (000) 6
-pub fn acked_each(
+pub(crate) fn acked_each(
     m: &Words,
     n: u64,
     q: SpaceState,

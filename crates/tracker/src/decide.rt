@@ -303,7 +303,7 @@ fn largest_for(stored: Number, words: &[u64]) -> u64
 }
 
 // Steps 1 to 6. The flags say which records the ranges hold, all before place last.
-pub fn plan_ack(
+pub(crate) fn plan_ack(
     m: &Words,
     n: u64,
     q: SpaceState,

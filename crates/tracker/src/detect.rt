@@ -4,6 +4,7 @@ use crate::Losses;
 use arith::time::Moment;
 use arith::time::SpanSum;
 use connection::SpaceState;
+use connection::parts::normal;
 use estimate::loss::loss_delay;
 use losses::detect::seek;
 use losses::drain::drain;
@@ -18,6 +19,7 @@ use records::memory::Words;
 ghost use mathlib.Core.Path.{_≡_};
 ghost use Prim.Native.Nat.{_≤_};
 ghost use Rattle.model.specs.Numbers.{capacity, orZero};
+ghost use Rattle.connection.specs.View.{normalOf};
 ghost use Rattle.tracker.specs.Plan.{planLosses, endsOf};
 ghost use Rattle.tracker.specs.Says.{lossPlanSays};
 
@@ -59,7 +61,7 @@ fn ended(
 }
 
 // Losses among the records from a place on, as step 1 leaves them.
-pub fn plan_losses(
+pub(crate) fn plan_losses(
     m: &Words,
     n: u64,
     q: SpaceState,
@@ -99,4 +101,21 @@ pub fn plan_losses(
         Detected::Refused(k) => LossPlan::Refused(k),
         Detected::Stops(f) => LossPlan::Ends(ended(m, n, q, flags, time, rtt, from, f)),
     }
+}
+
+// Losses among all records of a space, whatever its counts.
+pub fn plan_all_losses(
+    m: &Words,
+    n: u64,
+    q: SpaceState,
+    flags: &[u8; 256],
+    time: Moment,
+    rtt: Rtt,
+    o: Reordering,
+    largest: Number,
+    in_flight: u64,
+) -> LossPlan
+    ensures { λ r. ⌜ lossPlanSays r ≡ planLosses (now (m .entry)) n (normalOf q) (now (flags .entry)) time rtt o largest «in_flight» 0 ⌝ }
+{
+    plan_losses(m, n, normal(q), flags, time, rtt, o, largest, in_flight, 0)
 }

@@ -1,5 +1,5 @@
-// The tracker: acknowledgements and timeouts of a connection, on one lent array of words and a few values.
-// An event decides first, reading only, and stores when nothing can refuse any more. The event asks nothing of its caller; what `timeout` shares does.
+// The tracker: acknowledgements of a connection, on one lent array of words and a few values; and the loss detection that timeouts share.
+// An event decides first, reading only, and stores when nothing can refuse any more. No public function has a `requires`.
 use connection::SpaceState;
 use marks::LostTally;
 use model::OnAckReceivedOutcome;
@@ -12,7 +12,7 @@ pub mod ack;
 pub mod control;
 mod decide;
 pub mod detect;
-mod steps;
+pub mod steps;
 
 // A loss detection: its sums, the place where it stops, the space's loss time, and the first record that stays.
 pub struct Losses {

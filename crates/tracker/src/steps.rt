@@ -11,6 +11,7 @@ use arith::time::greater;
 use arith::time::lesser;
 use arith::time::since;
 use connection::SpaceState;
+use connection::parts::less;
 use estimate::rtt::Updated;
 use estimate::rtt::update_rtt;
 use marks::LostTally;
@@ -40,7 +41,13 @@ ghost use Rattle.tracker.specs.Says.{reorderedSays};
 const MAX_PACKET_THRESHOLD: u64 = 20;
 
 // The space once the records before place keep have left.
-pub fn kept_space(q: SpaceState, keep: usize, acked: u64, lost_ack: u64, epoch: Epoch) -> SpaceState
+pub(crate) fn kept_space(
+    q: SpaceState,
+    keep: usize,
+    acked: u64,
+    lost_ack: u64,
+    epoch: Epoch,
+) -> SpaceState
     requires { ⌜ (q .head ≤ capacity) × (q .len ≤ capacity) × (keep ≤ q .len) ⌝ }
     ensures { λ r. ⌜ r ≡ keptSpace q keep acked «lost_ack» epoch ⌝ }
 {
@@ -140,13 +147,6 @@ pub fn sampled_rtt(
     Updated::Accepted(rtt)
 }
 
-// Not below 0.
-fn less(a: u64, b: u64) -> u64
-    ensures { λ r. ⌜ r ≡ a - b ⌝ }
-{
-    if a < b { 0 } else { a - b }
-}
-
 // The bytes in flight without the lost and the acked. 01 Lost or not, Acknowledgement (000) 6
 pub fn bytes_left(bytes: u64, l: LostTally, acked: u64) -> u64
     ensures { λ r. ⌜ r ≡ bytes - l .bytes - l .«probe_bytes» - acked ⌝ }
@@ -220,7 +220,7 @@ pub fn shared_timed(s: Shared, timer: Time) -> Shared
 }
 
 // The space after step 6.
-pub fn space_planned(q: SpaceState, t: Tally, largest: Number, l: Losses) -> SpaceState
+pub(crate) fn space_planned(q: SpaceState, t: Tally, largest: Number, l: Losses) -> SpaceState
     requires { ⌜ (q .head ≤ capacity) × (q .len ≤ capacity) × (l .keep ≤ q .len) ⌝ }
     ensures { λ r. ⌜ r ≡ spacePlanned q t largest l ⌝ }
 {

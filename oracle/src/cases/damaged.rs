@@ -31,7 +31,17 @@ cases! {
 
     trace_cut_in_an_ack_is_bad_at_its_kind => trace().sent(0, 0).range(0, 1).raw(&[3; 27]),
 
+    trace_cut_in_a_timeout_is_bad_at_its_kind => trace().sent(0, 0).raw(&[4; 9]),
+
+    trace_cut_in_a_discard_is_bad_at_its_kind => trace().sent(0, 0).raw(&[5; 10]),
+
     trace_cut_in_a_size_is_bad_at_its_kind => trace().sent(0, 0).raw(&[6, 4]),
+
+    trace_cut_in_a_take_of_an_acked_handle_is_bad_at_its_kind => trace().sent(0, 0).raw(&[7]),
+
+    trace_cut_in_a_take_of_a_lost_handle_is_bad_at_its_kind => trace().sent(0, 0).raw(&[8]),
+
+    trace_cut_in_a_ping_is_bad_at_its_kind => trace().sent(0, 0).raw(&[9]),
 
     refused_event_before_a_damaged_one_prints_its_line => trace()
         .sent(5, 0)
@@ -41,6 +51,13 @@ cases! {
     trace_of_65536_bytes_is_read_to_its_end => ranges_and_takes(3_854, 9),
 
     trace_of_65537_bytes_prints_only_too_long => ranges_and_takes(3_855, 1),
+
+    trace_of_65536_bytes_that_ends_in_a_cut_body_is_bad_there => ranges_and_takes(3_854, 8)
+        .raw(&[4, 0]),
+
+    damaged_trace_of_65537_bytes_prints_only_too_long => trace()
+        .raw(&[0, 0])
+        .raw(&ranges_and_takes(3_855, 0).built()),
 }
 
 #[cfg(test)]
@@ -48,9 +65,13 @@ mod tests {
     use crate::cases::named;
 
     #[test]
-    fn the_two_long_traces_have_the_lengths_of_their_names() {
+    fn long_traces_have_the_lengths_of_their_names() {
         let length = |name| (named(name).unwrap().trace)().len();
         assert_eq!(length("trace_of_65536_bytes_is_read_to_its_end"), 65_536);
         assert_eq!(length("trace_of_65537_bytes_prints_only_too_long"), 65_537);
+        let cut = "trace_of_65536_bytes_that_ends_in_a_cut_body_is_bad_there";
+        assert_eq!(length(cut), 65_536);
+        let damaged = "damaged_trace_of_65537_bytes_prints_only_too_long";
+        assert_eq!(length(damaged), 65_537);
     }
 }

@@ -10,6 +10,12 @@ const NUMBERS: u64 = 1 << 62;
 const FIRST_PTO: u64 = 1_024 * MILLI;
 /// The largest delay whose nanoseconds are at most 2^53 - 1.
 const LARGEST_DELAY: u64 = LARGEST_TIME / 1_000;
+const SECOND: u64 = 1_000 * MILLI;
+/// A sample that leaves a whole number of microseconds to the largest span.
+const SMALLEST: u64 = 100 * MILLI + LARGEST_TIME % 1_000;
+/// Sent then and sampled with 1 s, an Application packet's timer is the largest moment: three
+/// times the sample and 25 ms.
+const AFTER_SAMPLE: u64 = LARGEST_TIME - 3 * SECOND - 25 * MILLI;
 
 fn trace() -> Builder {
     Builder::default()
@@ -88,6 +94,21 @@ cases! {
         .sent_packet(LARGEST_TIME + 1, flagged(0, 0))
         .sent_packet(u64::MAX, flagged(0, 0))
         .sent_packet(LARGEST_TIME, flagged(0, 0)),
+
+    each_event_is_refused_with_1_one_past_the_largest_moment => trace()
+        .sent(0, 0)
+        .timeout(LARGEST_TIME + 1)
+        .discard(LARGEST_TIME + 1, 0, Status::ALL)
+        .acked(LARGEST_TIME + 1, 7, 8)
+        .acked(LARGEST_TIME, 7, 8)
+        .timeout(LARGEST_TIME - 1)
+        .discard(LARGEST_TIME, 2, Status::ALL),
+
+    timeout_and_discard_move_the_clock => trace()
+        .sent(0, 0)
+        .timeout(100).sent(99, 1).sent(100, 1)
+        .discard(200, 0, Status::ALL).sent(199, 2).sent(200, 2)
+        .acked(199, 0, 1).acked(200, 0, 1),
 
     refused_event_moves_no_clock => trace()
         .sent_packet(100, sized(0, 0)).sent(50, 0).acked(200, 0, 0).timeout(60),
@@ -169,6 +190,13 @@ cases! {
         .sent(0, 0).sent(0, 2)
         .range(0, 1).range(2, 3).ack(100 * MILLI, skipping(1)),
 
+    skipped_number_is_in_a_range_from_its_start_to_below_its_end => trace()
+        .sent_each(0, 0..6)
+        .range(2, 5).ack(MILLI, skipping(2))
+        .range(2, 5).ack(MILLI, skipping(4))
+        .range(2, 5).ack(MILLI, skipping(5))
+        .range(0, 1).ack(MILLI, skipping(1)),
+
     first_refusal_of_the_table_wins => trace()
         .sent(10, 0)
         .sent_in(9, 3, sized(0, 0), Status::ALL)
@@ -185,9 +213,51 @@ cases! {
         .acked(210 * MILLI, 256, 257)
         .acked(220 * MILLI, 257, 258),
 
+    ack_of_two_is_refused_whole_where_one_handle_has_room => full_acked_queue()
+        .event(Event::TakeAcked(APPLICATION))
+        .acked(210 * MILLI, 256, 258)
+        .acked(210 * MILLI, 256, 257),
+
+    handle_0_takes_no_room_in_a_full_queue => full_acked_queue()
+        .sent_packet(201 * MILLI, Packet { handle: 0, ..packet(260) })
+        .acked(210 * MILLI, 260, 261),
+
+    discard_empties_a_full_queue => full_acked_queue()
+        .acked(210 * MILLI, 256, 257)
+        .discard(210 * MILLI, APPLICATION, Status::ALL)
+        .event(Event::TakeAcked(APPLICATION))
+        .sent(211 * MILLI, 260)
+        .acked(220 * MILLI, 260, 261),
+
     lost_queue_of_256_handles_is_full => nearly_full_lost_queue(38)
         .acked(2_100 * MILLI, 299, 300)
         .event(Event::TakeLost(APPLICATION))
+        .acked(2_100 * MILLI, 299, 300),
+
+    timeout_that_would_overfill_the_lost_queue_is_refused_with_6 => nearly_full_lost_queue(39)
+        .acked(2_100 * MILLI, 299, 300)
+        .timeout(2_113 * MILLI)
+        .event(Event::TakeLost(APPLICATION))
+        .timeout(2_113 * MILLI)
+        .event(Event::TakeLost(APPLICATION))
+        .timeout(2_113 * MILLI),
+
+    full_ring_is_refused_before_a_timer_that_is_too_late => (0..256)
+        .fold(trace(), |trace, n| trace.sent(LARGEST_TIME - FIRST_PTO, n))
+        .sent(LARGEST_TIME - FIRST_PTO, 256)
+        .sent(LARGEST_TIME - FIRST_PTO + 1, 256),
+
+    delay_is_refused_before_a_full_queue => full_acked_queue()
+        .range(256, 257).ack(210 * MILLI, delayed(LARGEST_DELAY + 1))
+        .range(256, 257).ack(210 * MILLI, delayed(LARGEST_DELAY)),
+
+    full_acked_queue_is_refused_before_the_sample => full_acked_queue()
+        .range(256, 257).ack_with(210 * MILLI, delayed(LARGEST_DELAY), Status(3))
+        .event(Event::TakeAcked(APPLICATION))
+        .range(256, 257).ack_with(210 * MILLI, delayed(LARGEST_DELAY), Status(3)),
+
+    sample_is_refused_before_a_full_lost_queue => nearly_full_lost_queue(38)
+        .range(299, 300).ack_with(2_100 * MILLI, delayed(LARGEST_DELAY), Status(3))
         .acked(2_100 * MILLI, 299, 300),
 
     delay_past_the_largest_span_is_refused_with_7 => trace()
@@ -198,6 +268,16 @@ cases! {
     delay_beyond_the_smallest_rtt_is_refused_with_7_before_completion =>
         second_sample_with(Status(3)),
 
+    delay_and_the_smallest_rtt_may_come_to_the_largest_span => trace()
+        .sent_in(0, APPLICATION, packet(0), Status(3))
+        .range(0, 1)
+        .ack_with(SMALLEST, plain_ack(), Status(3))
+        .sent_in(SMALLEST, APPLICATION, packet(1), Status(3))
+        .range(1, 2)
+        .ack_with(2 * SMALLEST, delayed((LARGEST_TIME - SMALLEST) / 1_000 + 1), Status(3))
+        .range(1, 2)
+        .ack_with(2 * SMALLEST, delayed((LARGEST_TIME - SMALLEST) / 1_000), Status(3)),
+
     delay_is_capped_once_completed_and_accepted => second_sample_with(Status::ALL),
 
     timer_past_the_largest_moment_is_refused_with_7 => trace()
@@ -207,6 +287,29 @@ cases! {
     timer_at_the_largest_moment_is_set => trace()
         .sent(LARGEST_TIME - FIRST_PTO, 0)
         .sent(LARGEST_TIME - FIRST_PTO + 1, 1),
+
+    idle_timer_past_the_largest_moment_is_refused_with_7 => trace()
+        .discard(LARGEST_TIME - 999 * MILLI, 0, Status(1))
+        .discard(LARGEST_TIME - 999 * MILLI + 1, 0, Status(1))
+        .discard(LARGEST_TIME - 999 * MILLI + 1, 0, Status(3)),
+
+    timer_after_an_ack_past_the_largest_moment_is_refused_with_7 => trace()
+        .sent_each(AFTER_SAMPLE + 1, 0..2)
+        .acked(AFTER_SAMPLE + 1 + SECOND, 0, 1)
+        .acked(AFTER_SAMPLE + SECOND, 0, 1),
+
+    timer_after_an_ack_at_the_largest_moment_is_set => trace()
+        .sent_each(AFTER_SAMPLE, 0..2)
+        .acked(AFTER_SAMPLE + SECOND, 0, 1),
+
+    loss_time_past_the_largest_moment_is_refused_with_7 => trace()
+        .sent_each(LARGEST_TIME - 9 * SECOND + 1, 0..2)
+        .acked(LARGEST_TIME - SECOND + 1, 1, 2)
+        .acked(LARGEST_TIME - SECOND, 1, 2),
+
+    loss_time_at_the_largest_moment_is_set => trace()
+        .sent_each(LARGEST_TIME - 9 * SECOND, 0..2)
+        .acked(LARGEST_TIME - SECOND, 1, 2),
 
     timeout_with_nothing_in_flight_forms_no_moment_if_the_peer_is_verified => trace()
         .timeout(LARGEST_TIME)

@@ -35,6 +35,7 @@ fn large_window(last: u64) -> Builder {
         .acked(302 * MILLI, last + 1, last + 2)
 }
 
+/// 256 records of 40 bytes, sent at 1 ms, and a 257th that is refused.
 fn full_ring() -> Builder {
     let small = |number| Packet {
         size: 40,
@@ -258,6 +259,38 @@ cases! {
     full_ring_of_256_refuses_and_room_is_used_again => full_ring()
         .acked(100 * MILLI, 0, 10)
         .sent_each(100 * MILLI, 300..311),
+
+    room_is_freed_only_from_the_front => full_ring()
+        .acked(50 * MILLI, 1, 3)
+        .sent(50 * MILLI, 300)
+        .acked(50 * MILLI, 0, 1)
+        .sent_each(50 * MILLI, 300..304),
+
+    lost_records_hold_their_room_for_one_smoothed_rtt => full_ring()
+        .acked(101 * MILLI, 100, 101)
+        .sent(101 * MILLI, 300)
+        .acked(201 * MILLI - 1, 100, 101)
+        .sent(201 * MILLI - 1, 300)
+        .acked(201 * MILLI, 100, 101)
+        .sent(201 * MILLI, 300),
+
+    full_ring_of_one_space_leaves_room_in_the_others => full_ring()
+        .sent_in(MILLI, 0, packet(0), Status::ALL)
+        .sent_in(MILLI, 1, packet(0), Status::ALL),
+
+    discard_frees_a_full_ring => full_ring()
+        .discard(2 * MILLI, APPLICATION, Status::ALL)
+        .sent_each(2 * MILLI, 256..258),
+
+    ranges_are_held_across_other_events => trace()
+        .sent_each(0, 0..3)
+        .range(0, 1)
+        .timeout(MILLI)
+        .range(2, 3)
+        .sent(MILLI, 2)
+        .sent(MILLI, 3)
+        .event(Event::Ping(APPLICATION))
+        .ack(100 * MILLI, plain_ack()),
 
     twenty_four_packets_in_a_row_that_elicit_nothing => (0..25).fold(trace(), |trace, n| {
         trace.sent_packet(n, Packet { flags: Flags(2), ..packet(n) })

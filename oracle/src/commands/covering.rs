@@ -2,6 +2,7 @@
 
 use std::ops::Range;
 
+use oracle::arguments::{read_file, Arguments};
 use oracle::coverage::{covered, Counts, Thing, THINGS};
 use oracle::domain::judged;
 use oracle::event::Event;
@@ -9,8 +10,6 @@ use oracle::generate::profile::{Profile, PROFILES};
 use oracle::generate::{generated, DEFAULT_EVENTS};
 use oracle::root::Root;
 use oracle::trace::{written, Reader};
-
-use super::arguments::{read_file, Arguments};
 
 /// What one profile's traces came to.
 struct Row {

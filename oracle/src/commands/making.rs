@@ -1,11 +1,10 @@
 //! `profiles`, `generate`, `cases` and `case`.
 
+use oracle::arguments::{write_file, Arguments};
 use oracle::generate::profile::{named, Profile, PROFILES};
 use oracle::generate::{generated, DEFAULT_EVENTS};
 use oracle::root::Root;
 use oracle::trace::written;
-
-use super::arguments::{write_file, Arguments};
 
 pub fn profile_named(name: &str) -> Result<&'static Profile, String> {
     named(name).ok_or(format!("no profile '{name}'; see oracle profiles"))

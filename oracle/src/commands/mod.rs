@@ -1,19 +1,20 @@
 //! The oracle's commands, one file for each group.
 
-pub mod arguments;
 mod covering;
 mod making;
 mod replaying;
 mod rooting;
 mod timing;
 
-use arguments::Arguments;
+use oracle::arguments::Arguments;
 
 pub const HELP: &str = "\
 quiche 0.30.0's loss recovery behind document 01's events.
 
 oracle replay [--all] [--shipped-root] FILE
     01's lines of a trace; with --all everything held after each event
+oracle inspect FILE
+    01's lines, each with answers, estimates, CUBIC, counts and spaces behind it
 oracle domain FILE..
     where each trace leaves 01's domain of equality, and why; status 1 if one does
 oracle profiles
@@ -48,6 +49,7 @@ pub fn run(mut words: Vec<String>) -> Result<bool, String> {
     let arguments = Arguments::new(words);
     match command.as_str() {
         "replay" => replaying::replay(arguments),
+        "inspect" => replaying::inspect(arguments),
         "domain" => replaying::domain(arguments),
         "profiles" => making::profiles(arguments),
         "generate" => making::generate(arguments),

@@ -1,12 +1,11 @@
-//! `replay` and `domain`.
+//! `replay`, `inspect` and `domain`.
 
 use std::io::Write;
 
+use oracle::arguments::{read_file, Arguments};
 use oracle::domain::judged;
 use oracle::replay::{replayed, Print};
 use oracle::root::Root;
-
-use super::arguments::{read_file, Arguments};
 
 pub fn replay(mut arguments: Arguments) -> Result<bool, String> {
     let print = if arguments.flag("--all") {
@@ -21,7 +20,16 @@ pub fn replay(mut arguments: Arguments) -> Result<bool, String> {
     };
     let trace = read_file(&arguments.only("trace file")?)?;
     root.choose()?;
-    let out = replayed(&trace, print);
+    printed(&replayed(&trace, print))
+}
+
+pub fn inspect(arguments: Arguments) -> Result<bool, String> {
+    let trace = read_file(&arguments.only("trace file")?)?;
+    Root::Exact.choose()?;
+    printed(&replayed(&trace, Print::Inspected))
+}
+
+fn printed(out: &str) -> Result<bool, String> {
     std::io::stdout()
         .write_all(out.as_bytes())
         .map_err(|e| format!("standard output: {e}"))?;

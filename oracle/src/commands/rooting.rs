@@ -1,12 +1,11 @@
 //! `root` and `roots-differ`.
 
+use oracle::arguments::{read_file, Arguments};
 use oracle::generate::profile::PROFILES;
 use oracle::generate::{generated, DEFAULT_EVENTS};
 use oracle::replay::Player;
 use oracle::root::{shipped_name, Root};
 use oracle::trace::{written, Reader};
-
-use super::arguments::{read_file, Arguments};
 
 pub fn root(mut arguments: Arguments) -> Result<bool, String> {
     let which = if arguments.flag("--shipped-root") {

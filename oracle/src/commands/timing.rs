@@ -1,12 +1,13 @@
 //! `bench`.
 
+use oracle::arguments::{read_file, Arguments};
 use oracle::bench::{benched, Timing};
 use oracle::event::Event;
 use oracle::generate::generated_without_limit;
 use oracle::root::Root;
+use oracle::settings::Settings;
 use oracle::trace::Reader;
 
-use super::arguments::{read_file, Arguments};
 use super::making::profile_named;
 
 const EVENTS: u64 = 100_000;
@@ -39,7 +40,10 @@ pub fn bench(mut arguments: Arguments) -> Result<bool, String> {
     let (name, events) = match &files[..] {
         [] => {
             let name = format!("profile {}, seed {seed}", profile.name);
-            (name, generated_without_limit(profile, seed, most))
+            (
+                name,
+                generated_without_limit(Settings::default(), profile, seed, most),
+            )
         }
         [file] => (file.clone(), read_events(file)?),
         _ => return Err("wanted: at most one trace file".to_string()),

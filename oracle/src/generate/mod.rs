@@ -3,11 +3,13 @@
 mod handshake;
 mod peer;
 pub mod profile;
-mod random;
+pub mod random;
 mod sender;
 mod world;
 
+use crate::connection::Oracle;
 use crate::event::Event;
+use crate::settings::Settings;
 use crate::trace::LONGEST_TRACE;
 use profile::Profile;
 use random::Random;
@@ -18,17 +20,26 @@ pub const DEFAULT_EVENTS: usize = 1_500;
 
 /// The events of a trace of at most 65,536 bytes. The thread's root must be chosen.
 pub fn generated(profile: &Profile, seed: u64, most_events: usize) -> Vec<Event> {
-    run(profile, seed, most_events, LONGEST_TRACE)
+    let settings = Settings::default();
+    run(settings, profile, seed, (most_events, LONGEST_TRACE))
 }
 
-/// As `generated`, of any length.
-pub fn generated_without_limit(profile: &Profile, seed: u64, most_events: usize) -> Vec<Event> {
-    run(profile, seed, most_events, usize::MAX)
+/// As `generated`, of any length and for a connection with these settings, which must be in
+/// their ranges.
+pub fn generated_without_limit(
+    settings: Settings,
+    profile: &Profile,
+    seed: u64,
+    most_events: usize,
+) -> Vec<Event> {
+    run(settings, profile, seed, (most_events, usize::MAX))
 }
 
-fn run(profile: &Profile, seed: u64, most_events: usize, most_bytes: usize) -> Vec<Event> {
+fn run(settings: Settings, profile: &Profile, seed: u64, most: (usize, usize)) -> Vec<Event> {
     let name = profile.name.bytes();
     let salt = name.fold(0, |n: u64, b| n.rotate_left(7) ^ u64::from(b));
     let random = Random::new(seed ^ salt.rotate_left(32));
-    World::new(profile.knobs, random, most_bytes).run(most_events)
+    let oracle = Oracle::new(settings).expect("settings in their ranges");
+    let (most_events, most_bytes) = most;
+    World::new(profile.knobs, oracle, random, most_bytes).run(most_events)
 }

@@ -1,5 +1,6 @@
 //! Plays events on the real recovery and keeps only those that stay in the domain.
 
+use crate::connection::Oracle;
 use crate::domain::{is_half_case, Judge};
 use crate::event::Event;
 use crate::replay::Player;
@@ -31,9 +32,9 @@ pub struct Sender {
 }
 
 impl Sender {
-    pub fn new(most_bytes: usize, both_thresholds: bool) -> Self {
+    pub fn new(oracle: Oracle, most_bytes: usize, both_thresholds: bool) -> Self {
         Sender {
-            player: Player::with_defaults(),
+            player: Player::new(oracle),
             judge: Judge::default(),
             events: Vec::new(),
             bytes: 0,

@@ -1,7 +1,7 @@
 -- `on_loss_detection_timeout` meets its contract: refusal 1, then by whether a loss time stands (proofs/Whole.antt). Assumes nothing.
 use borrow.Author.Tests.{not-true, not-false}
 use Rattle.timeout.proofs.Whole.{late, clock-limit, as-loss, as-probe}
-use Rattle.timeout.proofs.Spaces.{loss-space}
+use Rattle.model.proofs.Spaces.{earliest-small}
 use Rattle.model.specs.declared.TimeAndSpace.{TimeAndSpace}
 use mathlib.Core.Path.{sym, ap, _∙_}
 use borrow.Author.Needs.{needs}
@@ -21,7 +21,7 @@ enum-told : tie.Need-enum-told
 enum-told c = search needs
 
 loss-timeout-requires : tie.Need-loss-timeout-requires
-loss-timeout-requires c κs = (clock-limit _ _ (sym (c .before .before .before .before .before .before .before .before .before .before .before .on-clock .ensures) ∙ not-false (c .before .before .before .before .before .before .before .before .before .before .before .on-clock .result) (c .before .before .before .before .before .before .before .before .before .before .if1 .left)), rw (c .before .before .before .loss-time-and-space .ensures) (loss-space _ _ _))
+loss-timeout-requires c κs = (clock-limit _ _ (sym (c .before .before .before .before .before .before .before .before .before .before .before .on-clock .ensures) ∙ not-false (c .before .before .before .before .before .before .before .before .before .before .before .on-clock .result) (c .before .before .before .before .before .before .before .before .before .before .if1 .left)), rw (c .before .before .before .loss-time-and-space .ensures) (earliest-small _ _ _))
 
 enum-told-2 : tie.Need-enum-told-2
 enum-told-2 c = search needs

@@ -11,6 +11,7 @@ use super::peer::Received;
 use super::profile::Knobs;
 use super::random::Random;
 use super::sender::Sender;
+use crate::connection::Oracle;
 use crate::event::{Event, Status, NONE_SKIPPED};
 use path::Path;
 
@@ -63,13 +64,13 @@ pub struct World {
 }
 
 impl World {
-    pub fn new(knobs: Knobs, mut random: Random, most_bytes: usize) -> Self {
+    pub fn new(knobs: Knobs, oracle: Oracle, mut random: Random, most_bytes: usize) -> Self {
         // Half of the traces start at 0, where `now` is below the smoothed RTT.
         let late = random.below(1 << 51);
         let start = if random.in_thousand(500) { 0 } else { late };
         World {
             path: Path::new(&knobs, start, &mut random),
-            sender: Sender::new(most_bytes, random.in_thousand(500)),
+            sender: Sender::new(oracle, most_bytes, random.in_thousand(500)),
             now: start,
             start,
             under_way: BTreeMap::new(),

@@ -145,7 +145,7 @@ impl World {
 
     fn draw_handle(&mut self) -> u64 {
         if self.random.in_thousand(self.knobs.with_handle) {
-            self.random.next().max(1)
+            self.random.any().max(1)
         } else {
             0
         }

@@ -18,8 +18,8 @@ space-at-requires c κs = search needs
 normal-requires : tie.Need-normal-requires
 normal-requires c κs = search needs
 
-one-less-probe-requires : tie.Need-one-less-probe-requires
-one-less-probe-requires c κs = search needs
+less-requires : tie.Need-less-requires
+less-requires c κs = search needs
 
 with-probes-requires : tie.Need-with-probes-requires
 with-probes-requires c κs = search needs
@@ -31,12 +31,12 @@ returns-2 : tie.Need-returns-2
 unfolding normalOf
 returns-2 c =
     let at-with-probes = c .before in
-    let at-one-less-probe = at-with-probes .before in
-    let at-normal = at-one-less-probe .before .before in
+    let at-less = at-with-probes .before in
+    let at-normal = at-less .before .before in
     let at-space-at = at-normal .before in
     let at-if1 = at-space-at .before .before in
     let at-args = at-if1 .before in
-    λ m. ping-does m (at-args .args .n) (at-args .args .s) (at-if1 .if1 .left) (c .with-space .ensures ∙ rw (at-with-probes .with-probes .ensures, at-one-less-probe .one-less-probe .ensures, at-normal .normal .ensures, at-space-at .space-at .ensures))
+    λ m. ping-does m (at-args .args .n) (at-args .args .s) (at-if1 .if1 .left) (c .with-space .ensures ∙ rw (at-with-probes .with-probes .ensures, at-less .less .ensures, at-normal .normal .ensures, at-space-at .space-at .ensures))
 
 pub ping-sent-spec : {M : Type 1} → statement M
 ping-sent-spec =
@@ -46,7 +46,7 @@ ping-sent-spec =
     returns
     space-at-requires
     normal-requires
-    one-less-probe-requires
+    less-requires
     with-probes-requires
     with-space-requires
     returns-2)

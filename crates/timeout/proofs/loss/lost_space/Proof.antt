@@ -11,11 +11,11 @@ add-t8 c = search needs
 records-left-requires : tie.Need-records-left-requires
 records-left-requires c κs = search needs
 
-epoch-lost-requires : tie.Need-epoch-lost-requires
-epoch-lost-requires c κs = search needs
+epoch-detected-requires : tie.Need-epoch-detected-requires
+epoch-detected-requires c κs = search needs
 
 returns : tie.Need-returns
-returns c = rw (around _ _, c .before .records-left .ensures, c .epoch-lost .ensures) refl
+returns c = rw (around _ _, c .before .records-left .ensures, c .epoch-detected .ensures) refl
 
 pub lost-space-spec : {M : Type 1} → statement M
-lost-space-spec = tie.close (tie.spec add-t8 records-left-requires epoch-lost-requires returns)
+lost-space-spec = tie.close (tie.spec add-t8 records-left-requires epoch-detected-requires returns)

@@ -1,7 +1,8 @@
 -- `ack::on_ack_received` meets its contract: the tests, then the step, by `checked-view`. Assumes nothing.
 use Rattle.connection.specs.View.{connectionOf, stateBy}
 use Rattle.connection.proofs.Placed.{does-refused}
-use Rattle.tracker.specs.Event.{ackWords, checkedSays}
+use Rattle.front.specs.Checked.{checkedSays}
+use Rattle.tracker.specs.Event.{ackWords}
 use Rattle.tracker.proofs.Carried.{checked-view, checked-space, checked-time}
 use mathlib.Core.Path.{refl, ap, sym, _∙_}
 use borrow.Author.Needs.{needs}

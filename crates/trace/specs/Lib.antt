@@ -1,0 +1,5 @@
+pub mod Says
+pub mod Reading
+pub mod Held
+pub mod Put
+pub mod Lines
