@@ -1,0 +1,4 @@
+pub mod Lifted
+pub mod Read
+pub mod Runs
+pub mod One

@@ -1,0 +1,5 @@
+pub mod Turns
+pub mod Printed
+pub mod Start
+pub mod Input
+pub mod Whole
