@@ -1,0 +1,4 @@
+pub mod Floats
+pub mod Naming
+pub mod Spaces
+pub mod Lengths

@@ -1,0 +1,53 @@
+-- `answer::put_ack` meets its contract, word after word. Assumes nothing.
+use borrow.Author.Needs.{needs}
+use Rattle.trace.proofs.Puts.{put-then}
+use Rattle.field.specs.Inspect.{ackWords}
+use Rattle.field.proofs.Naming.{put-last-word}
+use Rattle.field.proofs.answer.put_ack.Statement.{statement}
+use Rattle.field.proofs.answer.put_ack.Tie as tie
+
+slice-aggregate-put-number : tie.Need-slice-aggregate-put-number
+slice-aggregate-put-number c = search needs
+
+put-number-requires : tie.Need-put-number-requires
+put-number-requires c κs = search needs
+
+slice-aggregate-put-number-2 : tie.Need-slice-aggregate-put-number-2
+slice-aggregate-put-number-2 c = search needs
+
+put-number-requires-2 : tie.Need-put-number-requires-2
+put-number-requires-2 c κs = search needs
+
+slice-aggregate-put-number-3 : tie.Need-slice-aggregate-put-number-3
+slice-aggregate-put-number-3 c = search needs
+
+put-number-requires-3 : tie.Need-put-number-requires-3
+put-number-requires-3 c κs = search needs
+
+slice-aggregate-put-number-4 : tie.Need-slice-aggregate-put-number-4
+slice-aggregate-put-number-4 c = search needs
+
+put-number-requires-4 : tie.Need-put-number-requires-4
+put-number-requires-4 c κs = search needs
+
+same-length : tie.Need-same-length
+same-length c = search needs
+
+returns : tie.Need-returns
+unfolding ackWords
+returns c = put-then (c .before .before .before .before .before .before .before .before .before .before .before .before .before .before .before .before .before .put-number .ensures) (put-then (c .before .before .before .before .before .before .before .before .before .before .before .before .put-number2 .ensures) (put-then (c .before .before .before .before .before .before .before .put-number3 .ensures) (put-last-word (c .before .before .put-number4 .ensures))))
+
+pub put-ack-spec : {M : Type 1} → statement M
+put-ack-spec =
+    tie.close
+    (tie.spec
+    slice-aggregate-put-number
+    put-number-requires
+    slice-aggregate-put-number-2
+    put-number-requires-2
+    slice-aggregate-put-number-3
+    put-number-requires-3
+    slice-aggregate-put-number-4
+    put-number-requires-4
+    same-length
+    returns)

@@ -1,0 +1,57 @@
+-- `shared::put_congestion` meets its contract, word after word. Assumes nothing.
+use borrow.Author.Needs.{needs}
+use Rattle.trace.proofs.Puts.{put-then}
+use Rattle.field.specs.Inspect.{congestionWords}
+use Rattle.field.proofs.Naming.{put-last-word}
+use Rattle.field.proofs.shared.put_congestion.Statement.{statement}
+use Rattle.field.proofs.shared.put_congestion.Tie as tie
+
+slice-aggregate-put-number : tie.Need-slice-aggregate-put-number
+slice-aggregate-put-number c = search needs
+
+put-number-requires : tie.Need-put-number-requires
+put-number-requires c κs = search needs
+
+put-cubic-requires : tie.Need-put-cubic-requires
+put-cubic-requires c κs = search needs
+
+slice-aggregate-put-number-2 : tie.Need-slice-aggregate-put-number-2
+slice-aggregate-put-number-2 c = search needs
+
+put-number-requires-2 : tie.Need-put-number-requires-2
+put-number-requires-2 c κs = search needs
+
+slice-aggregate-put-time : tie.Need-slice-aggregate-put-time
+slice-aggregate-put-time c = search needs
+
+put-time-requires : tie.Need-put-time-requires
+put-time-requires c κs = search needs
+
+slice-aggregate-put-number-3 : tie.Need-slice-aggregate-put-number-3
+slice-aggregate-put-number-3 c = search needs
+
+put-number-requires-3 : tie.Need-put-number-requires-3
+put-number-requires-3 c κs = search needs
+
+same-length : tie.Need-same-length
+same-length c = search needs
+
+returns : tie.Need-returns
+unfolding congestionWords
+returns c = put-then (c .before .before .before .before .before .before .before .before .before .before .before .before .before .before .before .before .before .before .before .before .before .put-number .ensures) (put-then (c .before .before .before .before .before .before .before .before .before .before .before .before .before .before .before .before .before .put-cubic .ensures) (put-then (c .before .before .before .before .before .before .before .before .before .before .before .before .put-number2 .ensures) (put-then (c .before .before .before .before .before .before .before .put-time .ensures) (put-last-word (c .before .before .put-number3 .ensures)))))
+
+pub put-congestion-spec : {M : Type 1} → statement M
+put-congestion-spec =
+    tie.close
+    (tie.spec
+    slice-aggregate-put-number
+    put-number-requires
+    put-cubic-requires
+    slice-aggregate-put-number-2
+    put-number-requires-2
+    slice-aggregate-put-time
+    put-time-requires
+    slice-aggregate-put-number-3
+    put-number-requires-3
+    same-length
+    returns)

@@ -1,0 +1,45 @@
+-- `space::put_times` meets its contract, word after word. Assumes nothing.
+use borrow.Author.Needs.{needs}
+use Rattle.trace.proofs.Puts.{put-then}
+use Rattle.field.specs.Inspect.{timeWords}
+use Rattle.field.proofs.Naming.{put-last-word}
+use Rattle.field.proofs.space.put_times.Statement.{statement}
+use Rattle.field.proofs.space.put_times.Tie as tie
+
+slice-aggregate-put-time : tie.Need-slice-aggregate-put-time
+slice-aggregate-put-time c = search needs
+
+put-time-requires : tie.Need-put-time-requires
+put-time-requires c κs = search needs
+
+slice-aggregate-put-number : tie.Need-slice-aggregate-put-number
+slice-aggregate-put-number c = search needs
+
+put-number-requires : tie.Need-put-number-requires
+put-number-requires c κs = search needs
+
+slice-aggregate-put-number-2 : tie.Need-slice-aggregate-put-number-2
+slice-aggregate-put-number-2 c = search needs
+
+put-number-requires-2 : tie.Need-put-number-requires-2
+put-number-requires-2 c κs = search needs
+
+same-length : tie.Need-same-length
+same-length c = search needs
+
+returns : tie.Need-returns
+unfolding timeWords
+returns c = put-then (c .before .before .before .before .before .before .before .before .before .before .before .before .put-time .ensures) (put-then (c .before .before .before .before .before .before .before .put-number .ensures) (put-last-word (c .before .before .put-number2 .ensures)))
+
+pub put-times-spec : {M : Type 1} → statement M
+put-times-spec =
+    tie.close
+    (tie.spec
+    slice-aggregate-put-time
+    put-time-requires
+    slice-aggregate-put-number
+    put-number-requires
+    slice-aggregate-put-number-2
+    put-number-requires-2
+    same-length
+    returns)

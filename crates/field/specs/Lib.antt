@@ -1,0 +1,3 @@
+pub mod Words
+pub mod Inspect
+pub mod Rehearsals
