@@ -120,14 +120,14 @@ fn play_event(m: &mut Words, ranges: &[u64], r: Replay, e: Event, kind: u8, next
     let s = r.state;
     let played = play(m, s, e, first(ranges, lesser(r.held, RANGE_WORDS)));
     let answered = played.answered;
-    let state = played.state;
+    let after = played.state;
     Turned {
         met: Met::Event(kind, answered),
         replay: Replay {
             at: next,
             held: words_after(e, r.held),
             accepted: counted(answered, r.accepted),
-            state: state,
+            state: after,
         },
     }
 }

@@ -1,0 +1,4 @@
+pub mod Lent
+pub mod Walk
+pub mod Outcomes
+pub mod Params

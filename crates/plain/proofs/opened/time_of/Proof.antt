@@ -1,0 +1,16 @@
+-- `opened::time_of` meets its contract: by whether it is set. Assumes nothing.
+use borrow.Author.Tests.{eq-eqb, ne-eqb}
+use Rattle.plain.specs.Values.{toTime}
+use Rattle.plain.proofs.opened.time_of.Statement.{statement}
+use Rattle.plain.proofs.opened.time_of.Tie as tie
+
+returns : tie.Need-returns
+unfolding toTime
+returns c = rw (eq-eqb _ _ (c .if1 .taken))
+
+returns-2 : tie.Need-returns-2
+unfolding toTime
+returns-2 c = rw (ne-eqb _ _ (c .if1 .left))
+
+pub time-of-spec : {M : Type 1} → statement M
+time-of-spec = tie.close (tie.spec returns returns-2)
