@@ -1,4 +1,4 @@
-// Replays the stored traces that its arguments name. Before a trace's lines stands its name; the file `stdout` beside has what the Rust gives for them.
+// Replays the stored traces that its arguments name, and prints for each its name and its lines. The file `stdout` has what the Rust gives for them.
 use connection::fresh::Begun;
 use playback::Ranges;
 use playback::Replay;
@@ -50,6 +50,7 @@ fn print_lines(bytes: &[u8]) {
     }
 }
 
+// A trace over 65,536 bytes prints only `too long`. 01 Replay and the host
 fn print_replay(bytes: &[u8]) {
     if bytes.len() <= LONGEST {
         print_lines(bytes);

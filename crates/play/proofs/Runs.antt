@@ -1,9 +1,8 @@
 -- Events that each do what `play` claims do together what the definitions say of the list of them, and after each of them what the definitions say of it.
 -- Assumes nothing.
-use mathlib.Core.Path.{_≡_, refl, sym, ap, _∙_}
-use mathlib.Core.List.{List, [], _∷_}
+use mathlib.Core.Path.{_≡_, refl, ap, _∙_}
+use mathlib.Core.List.{List}
 use Prim.Native.Nat.{ℕ}
-use Rattle.model.specs.Connection.{Connection}
 use Rattle.model.specs.Run.{step, after, run}
 use Rattle.model.specs.Run as run
 use Rattle.connection.specs.View.{connectionOf}

@@ -1,15 +1,14 @@
 -- A turn's line, and what comes after it, are what was to come. Assumes nothing.
 use mathlib.Core.Logic.{⊎-elim}
-use mathlib.Core.Path.{_≡_, refl, ap, sym, _∙_}
+use mathlib.Core.Path.{_≡_, refl, sym, _∙_}
 use mathlib.Core.Bool.{Bool, true, false, cond}
-use mathlib.Core.List.{List, [], _∷_, _++_}
-use Prim.Native.Nat.{ℕ, suc, _+_, _-_, _%_, _≤_, _<_, min}
+use mathlib.Core.List.{List, _++_}
+use Prim.Native.Nat.{ℕ, _+_, _-_, _%_, _≤_, _<_, min}
 use native.Mathlib.Nat.{eq-zero-or-pos}
 use native.Mathlib.Omega.{arith}
 use lib.Dec.{ltb}
 use lib.ListN.{length, set, length-set}
 use Rattle.model.specs.Connection.{Connection}
-use Rattle.model.specs.Numbers.{Result}
 use Rattle.model.specs.Run.{Answer, step, stateBy, refusalOf}
 use Rattle.model.specs.Trace.{Line, lineOf, countBy, replayed}
 use Rattle.connection.specs.View.{connectionOf}
@@ -27,8 +26,7 @@ use Rattle.trace.proofs.Standing.{found-end, next-further, next-in}
 use Rattle.play.specs.Answers.{answeredSays, isAccepted}
 use Rattle.play.proofs.Read.{state-after, refusal-after, count-after}
 use Rattle.playback.specs.Turns.{countWith, wordsAfter, answerIn, Stays, Holds, Answers, Turns}
-use Rattle.playback.specs.Printed.{shownOf, linesOf, isLast, linesFrom, unlessEnded, Sound}
-use Rattle.playback.specs.declared.Met.{Met}
+use Rattle.playback.specs.Printed.{linesOf, isLast, linesFrom, unlessEnded, Sound}
 use Rattle.playback.specs.declared.Met.the-variants as met
 use Rattle.playback.specs.declared.Replay.{Replay}
 use Rattle.playback.specs.declared.Turned.{Turned}

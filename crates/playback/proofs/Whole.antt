@@ -1,24 +1,23 @@
 -- What a whole replay writes is what the definition prints. Assumes nothing.
-use mathlib.Core.Path.{_≡_, refl, ap, sym, _∙_}
+use mathlib.Core.Path.{_≡_, ap, sym, _∙_}
 use mathlib.Core.Bool.{true, false}
-use mathlib.Core.List.{List, [], _++_, append-nil}
+use mathlib.Core.List.{List, _++_, append-nil}
 use Prim.Native.Nat.{ℕ, _≤_}
 use native.Mathlib.Omega.{arith}
 use borrow.Author.Tests.{le-ltb}
 use lib.ListN.{length, take}
-use Rattle.model.specs.Connection.{Connection, fresh}
-use Rattle.model.specs.Numbers.{Result, accepted, refused, areSettings}
+use Rattle.model.specs.Connection.{fresh}
+use Rattle.model.specs.Numbers.{accepted, refused, areSettings}
 use Rattle.model.specs.Trace.{printed, replay}
 use Rattle.model.specs.declared.Refusal.{Refusal}
-use Rattle.connection.specs.Answers.{begunSays, Begins}
+use Rattle.connection.specs.Answers.{Begins}
 use Rattle.connection.specs.Steps.{freshState}
 use Rattle.connection.specs.View.{connectionOf}
 use Rattle.connection.specs.declared.State.{State}
-use Rattle.connection.specs.declared.fresh.Begun.{Begun}
 use Rattle.connection.specs.declared.fresh.Begun.the-variants as begun
 use Rattle.trace.proofs.Holding.{holds-none}
 use Rattle.trace.proofs.Replay.{replay-whole}
-use Rattle.playback.specs.Printed.{linesFrom, unlessEnded, Shows}
+use Rattle.playback.specs.Printed.{linesFrom, Shows}
 use Rattle.playback.specs.Start.{replaySettings, startWith}
 use Rattle.playback.specs.Whole.{Writes, last, more}
 use Rattle.playback.specs.declared.Replay.{Replay}

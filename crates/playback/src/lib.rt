@@ -1,5 +1,5 @@
 // A trace replayed, a turn for each range and each event. 01 'Replay and the host'.
-// No public function has a `requires`; each claims its whole answer.
+// No public function has a `requires`; each claims its whole answer, but for what is read and written: no contract can say that.
 use connection::State;
 use play::Answered;
 use play::answers::is_accepted;
@@ -44,15 +44,14 @@ pub enum Met {
     Event(u8, Answered),
 }
 
+// What was met, and where the replay stands after it.
 pub struct Turned {
     pub met: Met,
     pub replay: Replay,
 }
 
 // The words of 65 ranges. 01 Replay and the host
-pub type Ranges = [u64; 130];
-
-const RANGE_WORDS: usize = 130;
+pub type Ranges = [u64; trace::held::WORDS];
 
 // The count with this answer. No trace brings it to its bound.
 fn counted(a: Answered, n: u64) -> u64
@@ -118,7 +117,7 @@ fn play_event(m: &mut Words, ranges: &[u64], r: Replay, e: Event, kind: u8, next
     ensures { λ t. ⌜ Answers e kind next r t (now (ranges .entry)) (now (m .entry)) (now (m .exit)) ⌝ }
 {
     let s = r.state;
-    let played = play(m, s, e, first(ranges, lesser(r.held, RANGE_WORDS)));
+    let played = play(m, s, e, first(ranges, lesser(r.held, trace::held::WORDS)));
     let answered = played.answered;
     let after = played.state;
     Turned {

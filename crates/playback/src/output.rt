@@ -12,6 +12,7 @@ pub fn put_out(bytes: &[u8], n: usize) -> bool {
     is_written
 }
 
+// A line, written.
 pub fn put_text(line: Text) -> bool {
     let bytes = line.bytes;
     put_out(&bytes, line.length)

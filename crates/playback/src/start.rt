@@ -27,6 +27,7 @@ pub fn begin() -> Begun
     })
 }
 
+// At the first byte of a trace.
 pub fn start_with(s: State) -> Replay
     ensures { λ r. ⌜ r ≡ startWith s ⌝ }
 {
@@ -38,14 +39,16 @@ pub fn start_with(s: State) -> Replay
     }
 }
 
+// Words with no records and no handles in them.
 pub fn no_words() -> Words
     ensures { λ r. ⌜ r ≡ replicate allWords 0 ⌝ }
 {
     [0; WORDS]
 }
 
+// Words with no ranges in them.
 pub fn no_ranges() -> Ranges
     ensures { λ r. ⌜ r ≡ replicate heldWords 0 ⌝ }
 {
-    [0; 130]
+    [0; trace::held::WORDS]
 }

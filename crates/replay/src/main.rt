@@ -26,7 +26,6 @@ use playback::start::start_with;
 use playback::turn;
 use records::memory::Words;
 use trace::line::too_long;
-ghost use mathlib.Core.Path.{_≡_};
 ghost use Prim.Native.Nat.{_+_, _≤_};
 ghost use lib.ListN.{length};
 ghost use Rattle.playback.specs.Printed.{Sound, Shows};

@@ -1,7 +1,7 @@
 -- `first` meets its contract: by whether there are more. Assumes nothing.
 use mathlib.Core.Path.{sym}
 use lib.ListN.{length-take}
-use lib.Seq.{take-all, length-take-le}
+use lib.Seq.{take-all}
 use native.Mathlib.Omega.{arith}
 use borrow.Author.Needs.{needs}
 use Rattle.playback.proofs.first.Statement.{statement}

@@ -1,5 +1,4 @@
 -- `hold_range` meets its contract: as `hold` does. Assumes nothing.
-use mathlib.Core.Path.{refl}
 use borrow.Author.Needs.{needs}
 use Rattle.playback.proofs.hold_range.Statement.{statement}
 use Rattle.playback.proofs.hold_range.Tie as tie

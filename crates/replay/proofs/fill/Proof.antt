@@ -1,10 +1,9 @@
 -- `fill` meets its contract: its turns go onward from the first. The measure is what is left of the trace. Assumes nothing.
-use lib.ListN.{length}
-use native.Mathlib.Omega.{arith}
-use Rattle.playback.proofs.Chunk.{Onward, left, left-falls, onward-none, onward-more, shows-onward}
-use borrow.Author.Needs.{needs}
-use borrow.Author.Tests.{not-true}
 use mathlib.Core.Path.{_∙_}
+use native.Mathlib.Omega.{arith}
+use borrow.Author.Tests.{not-true}
+use lib.ListN.{length}
+use Rattle.playback.proofs.Chunk.{Onward, left, left-falls, onward-none, onward-more, shows-onward}
 use Rattle.replay.proofs.fill.Statement.{statement}
 use Rattle.replay.proofs.fill.Tie as tie
 

@@ -1,7 +1,6 @@
 -- `input::read_all` is safe and ends: each turn reads at least one byte more. Assumes nothing.
 use mathlib.Core.Path.{_≡_}
 use Prim.Native.Nat.{_-_, _≤_}
-use native.Mathlib.Omega.{arith}
 use lib.ListN.{length}
 use borrow.Author.Needs.{needs}
 use Rattle.playback.proofs.input.read_all.Statement.{statement}

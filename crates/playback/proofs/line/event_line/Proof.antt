@@ -1,5 +1,5 @@
 -- `line::event_line` meets its contract: by the read-outs. Assumes nothing.
-use mathlib.Core.Path.{refl, _∙_}
+use mathlib.Core.Path.{_∙_}
 use borrow.Author.Needs.{needs}
 use Rattle.playback.proofs.line.event_line.Statement.{statement}
 use Rattle.playback.proofs.line.event_line.Tie as tie
