@@ -1,5 +1,6 @@
 // Replays the stored traces that its arguments name, and prints for each its name and its lines. The file `stdout` has what the Rust gives for them.
 use connection::fresh::Begun;
+use libc::STDOUT_FILENO;
 use playback::Ranges;
 use playback::Replay;
 use playback::input::Input;
@@ -7,8 +8,6 @@ use playback::input::LONGEST;
 use playback::input::read_all;
 use playback::input::room;
 use playback::line::first;
-use playback::output::put_out;
-use playback::output::put_text;
 use playback::progress::Progress;
 use playback::progress::tell;
 use playback::start::begin;
@@ -18,6 +17,15 @@ use playback::start::start_with;
 use playback::turn;
 use records::memory::Words;
 use trace::line::too_long;
+
+// The first n bytes, written; where they can't be, it is said why.
+fn put_out(bytes: &[u8], n: usize) -> bool {
+    let is_written = io::write_all(STDOUT_FILENO, first(bytes, n));
+    if !is_written {
+        os::fail(b"standard output");
+    }
+    is_written
+}
 
 // One turn, told and written. What can't be written ends the replay.
 fn step(bytes: &[u8], m: &mut Words, ranges: &mut Ranges, out: &mut [u8], r: Replay) -> Progress {
@@ -56,7 +64,9 @@ fn print_replay(bytes: &[u8]) {
         print_lines(bytes);
         return;
     }
-    put_text(too_long());
+    let line = too_long();
+    let text = line.bytes;
+    put_out(&text, line.length);
 }
 
 // A trace's name on a line, and its lines.

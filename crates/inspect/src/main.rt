@@ -15,8 +15,6 @@ use playback::input::LONGEST;
 use playback::input::read_all;
 use playback::input::room;
 use playback::line::first;
-use playback::output::put_out;
-use playback::output::put_text;
 use playback::progress::Progress;
 use playback::progress::tell;
 use playback::start::begin;
@@ -51,6 +49,15 @@ fn step(bytes: &[u8], m: &mut Words, ranges: &mut Ranges, out: &mut [u8], r: Rep
     }
 }
 
+// The first n bytes, written; where they can't be, it is said why.
+fn put_out(bytes: &[u8], n: usize) -> bool {
+    let is_written = io::write_all(STDOUT_FILENO, first(bytes, n));
+    if !is_written {
+        os::fail(b"standard output");
+    }
+    is_written
+}
+
 // The lines of a trace that is not too long, each written when it is told.
 fn print_lines(bytes: &[u8]) {
     let Begun::Accepted(state) = begin() else {
@@ -74,7 +81,9 @@ fn print_trace(bytes: &[u8]) {
         print_lines(bytes);
         return;
     }
-    put_text(too_long());
+    let line = too_long();
+    let text = line.bytes;
+    put_out(&text, line.length);
 }
 
 // All is read before anything is printed, so that no output of a failed read passes for a whole one.

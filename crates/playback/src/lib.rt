@@ -1,5 +1,5 @@
 // A trace replayed, a turn for each range and each event. 01 'Replay and the host'.
-// No public function has a `requires`; each claims its whole answer, but for what is read and written: no contract can say that.
+// No public function has a `requires`; each claims its whole answer, but for what is read: no contract can say that.
 use connection::State;
 use play::Answered;
 use play::answers::is_accepted;
@@ -21,7 +21,6 @@ ghost use Rattle.playback.specs.Turns.{countWith, wordsAfter, Holds, Ans
 
 pub mod input;
 pub mod line;
-pub mod output;
 pub mod progress;
 pub mod start;
 

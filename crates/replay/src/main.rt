@@ -15,8 +15,6 @@ use playback::input::room;
 use playback::line::event_line;
 use playback::line::first;
 use playback::line::put_line;
-use playback::output::put_out;
-use playback::output::put_text;
 use playback::progress::Progress;
 use playback::progress::tell;
 use playback::start::begin;
@@ -83,6 +81,15 @@ fn fill(bytes: &[u8], m: &mut Words, ranges: &mut Ranges, out: &mut [u8], r: Rep
     p
 }
 
+// The first n bytes, written; where they can't be, it is said why.
+fn put_out(bytes: &[u8], n: usize) -> bool {
+    let is_written = io::write_all(STDOUT_FILENO, first(bytes, n));
+    if !is_written {
+        os::fail(b"standard output");
+    }
+    is_written
+}
+
 // The lines of a trace that is not too long, a chunk at a time.
 fn print_lines(bytes: &[u8]) {
     let Begun::Accepted(state) = begin() else {
@@ -106,7 +113,9 @@ fn print_replay(bytes: &[u8]) {
         print_lines(bytes);
         return;
     }
-    put_text(too_long());
+    let line = too_long();
+    let text = line.bytes;
+    put_out(&text, line.length);
 }
 
 // All is read before anything is printed, so that no output of a failed read passes for a whole one.
