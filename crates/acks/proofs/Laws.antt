@@ -99,9 +99,9 @@ or-false : (a : Bool) → a ≡ (a || false)
 or-false true = refl
 or-false false = refl
 
-on_fits : {A : Type 0} (x : Surveyed) (Z : Tally → Surveyed) {u : Tally} → Fits u ≡ on_fits x Z → ((v : Tally) → Fits v ≡ x → Fits u ≡ Z v → A) → A
-on_fits (Fits v) Z e k = k v refl e
-on_fits (Refused n) Z e k = absurd (let z : ◌≡◌ {A = ℕ} 0 1 = cc in let w : ⊥ = omega arith in w)
+on_fits_lem : {A : Type 0} (x : Surveyed) (Z : Tally → Surveyed) {u : Tally} → Fits u ≡ on_fits x Z → ((v : Tally) → Fits v ≡ x → Fits u ≡ Z v → A) → A
+on_fits_lem (Fits v) Z e k = k v refl e
+on_fits_lem (Refused n) Z e k = absurd (let z : ◌≡◌ {A = ℕ} 0 1 = cc in let w : ⊥ = omega arith in w)
 
 module _ (f : ℕ → Bool) (g : ℕ → Sent) (largest : ℕ) where
   -- the first record, and the others
@@ -152,7 +152,7 @@ module _ (f : ℕ → Bool) (g : ℕ → Sent) (largest : ℕ) where
       rw z
       (record { newly = omega arith; queued = omega arith; room = λ r. r; eliciting = or-false t.eliciting; last = inl (refl, refl) })
   tallied i (suc c) t {u} e =
-      on_fits (weighed (f i) largest i (g i) t) (survey largest (i + 1) (ring f (i + 1) c) (ring g (i + 1) c)) e
+      on_fits_lem (weighed (f i) largest i (g i) t) (survey largest (i + 1) (ring f (i + 1) c) (ring g (i + 1) c)) e
       (λ v x y. first i t v u (newly_of (ring f (i + 1) c) (ring g (i + 1) c)) (tallied (i + 1) c v y) (is_newly (f i) (g i)) (one largest i (g i) t (f i) x))
 
   -- the same as words hold it

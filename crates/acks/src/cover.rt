@@ -9,7 +9,7 @@ use records::memory::{CAPACITY, Words, held, number_at};
 use records::search::place_of;
 
 // How far the ranges so far reach: the place of the first record left, and the place after the last one held.
-#[derive(Drop)]
+#[derive(Clone, Copy)]
 struct Reach {
     place: usize,
     last: usize,

@@ -1,5 +1,7 @@
 // Step 1 of an acknowledgement, decided and not yet stored: which records the ranges hold, what they come to, and CUBIC over those newly acked.
 // No public function has a `requires`; each claims its whole answer, for every argument and every word of the memory.
+#![tactic(auto)]
+
 ghost use Rattle.std.specs.Prelude.{◌≡◌};
 ghost use Rattle.acks.specs.Places.{places_of};
 

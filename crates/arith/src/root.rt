@@ -14,14 +14,14 @@ const LEAST: f64 = 8.673617379884035e-19;
 
 const GREATEST: f64 = 1099511627776.0;
 
-#[derive(Drop)]
+#[derive(Clone, Copy)]
 pub enum Root {
     Is(f64),
     Refused(u8),
 }
 
 // high * 2^52 + low.
-#[derive(Drop)]
+#[derive(Clone, Copy)]
 struct Parts {
     high: u64,
     low: u64,

@@ -10,7 +10,7 @@ use crate::time::{LIMIT, Span, SpanSum};
 const SECOND: u64 = 1000000000;
 
 // 9/8 at first, 5/4 once a loss proved spurious.
-#[derive(Drop)]
+#[derive(Clone, Copy)]
 pub enum TimeThreshold {
     NineEighths,
     FiveFourths,

@@ -8,27 +8,27 @@ ghost use Rattle.arith.specs.Time.{as_span, as_moment, span_sum_of, scaled_of, l
 pub const LIMIT: u64 = 9007199254740991;
 
 // A point in time, in nanoseconds.
-#[derive(Drop)]
+#[derive(Clone, Copy)]
 pub struct Moment(pub u64);
 
 // A length of time, in nanoseconds.
-#[derive(Drop)]
+#[derive(Clone, Copy)]
 pub struct Span(pub u64);
 
 // A whole number up to LIMIT, or that it passed LIMIT; so for spans and moments below.
-#[derive(Drop)]
+#[derive(Clone, Copy)]
 pub enum Sum {
     Fine(u64),
     Over,
 }
 
-#[derive(Drop)]
+#[derive(Clone, Copy)]
 pub enum SpanSum {
     SpanOf(Span),
     TooLong,
 }
 
-#[derive(Drop)]
+#[derive(Clone, Copy)]
 pub enum MomentSum {
     MomentOf(Moment),
     TooLate,

@@ -1,4 +1,6 @@
 // The audit: bytes in flight by the packet records themselves, over a slice of them that the caller lends. 01 Replay and the host.
+#![tactic(auto)]
+
 ghost use Rattle.std.specs.Prelude.{◌≡◌, [], ◌∷◌};
 ghost use Rattle.model.specs.Connection.{outstanding};
 ghost use Rattle.audit.specs.Total.{plus_of, total_of};

@@ -1,4 +1,6 @@
 // Replays the stored traces that its arguments name, and prints for each its name and its lines. The file `stdout` has what the Rust gives for them.
+#![tactic(auto)]
+
 use connection::fresh::Begun;
 use libc::STDOUT_FILENO;
 use playback::input::{Input, LONGEST, read_all, room};

@@ -1,5 +1,7 @@
 // What an event has decided is stored: the marks of its records, and the handles of the packets that are newly acked or lost.
 // Nothing here can refuse: an event that comes so far is accepted.
+#![tactic(auto)]
+
 ghost use Rattle.std.specs.Prelude.{◌≡◌, ◌+◌, ◌*◌, ◌≤◌, min, max, eqb, ltb};
 ghost use Rattle.arith.specs.Whole.{limit};
 ghost use Rattle.marks.specs.Marks.{acked_mark};
@@ -14,7 +16,7 @@ use records::memory::{CAPACITY, Words, held, mark_at, record_handle_at, store_ha
 const LIMIT: u64 = 9007199254740991;
 
 // How many handles the queues of the acked and of the lost hold.
-#[derive(Drop)]
+#[derive(Clone, Copy)]
 pub struct Queues {
     pub acked: usize,
     pub lost: usize,

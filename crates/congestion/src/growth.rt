@@ -19,21 +19,21 @@ const ROLLBACK_THRESHOLD_PERCENT: u64 = 20;
 const MIN_ROLLBACK_THRESHOLD: u64 = 2;
 
 // A window and the bytes that wait beside it, or that the window passes 2^30.
-#[derive(Drop)]
+#[derive(Clone, Copy)]
 enum Stepped {
     To(u64, u64),
     TooWide,
 }
 
 // CUBIC's values, or that w_est passes 2^53-1.
-#[derive(Drop)]
+#[derive(Clone, Copy)]
 enum Estimate {
     Is(Cubic),
     Past,
 }
 
 // Whether few were lost, or that a product passes 2^53-1.
-#[derive(Drop)]
+#[derive(Clone, Copy)]
 enum Few {
     Tested(bool),
     Past,

@@ -1,5 +1,7 @@
 // The CUBIC congestion controller, over model's Congestion by value. 01 'CUBIC (001)'; RFC 9438.
 // No public function has a `requires`; each claims its whole answer, for every argument.
+#![tactic(auto)]
+
 use model::{Congestion, Refusal};
 
 pub mod curve;
@@ -7,7 +9,7 @@ pub mod growth;
 pub mod recovery;
 
 // The controller after a move, or the refusal that ends the event.
-#[derive(Drop)]
+#[derive(Clone, Copy)]
 pub enum Moved {
     Accepted(Congestion),
     Refused(Refusal),

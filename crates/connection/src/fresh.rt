@@ -15,7 +15,7 @@ use model::{
 };
 
 // A fresh connection, or refusal 2.
-#[derive(Drop)]
+#[derive(Clone, Copy)]
 pub enum Begun {
     Accepted(State),
     Refused(Refusal),

@@ -13,7 +13,7 @@ use model::{Epoch, HandshakeStatus, Refusal, Shared, Time, TimerFacts};
 use records::memory::{CAPACITY, held};
 
 // The state with its timer set, or refusal 7.
-#[derive(Drop)]
+#[derive(Clone, Copy)]
 pub enum Timing {
     Accepted(State),
     TooLarge,

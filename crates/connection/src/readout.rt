@@ -10,7 +10,7 @@ use arith::time::{Span, SpanSum};
 use model::{Number, Time};
 
 // A round trip that was measured, or none yet.
-#[derive(Drop)]
+#[derive(Clone, Copy)]
 pub enum Sampled {
     Unset,
     Is(Span),

@@ -16,7 +16,7 @@ use model::{Epoch, HandshakeStatus, Number, Packet, Refusal, Shared, Time};
 use records::memory::{CAPACITY, Words, full, held, store_record};
 
 // The state after a packet that may be sent, but for its record.
-#[derive(Drop)]
+#[derive(Clone, Copy)]
 enum Sending {
     Accepted(State),
     Refused(Refusal),

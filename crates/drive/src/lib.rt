@@ -1,4 +1,6 @@
 // The host's loop: it holds one connection record and lends it to be changed in place, event by event. 01 Replay and the host.
+#![tactic(auto)]
+
 ghost use Rattle.std.specs.Prelude.{◌≡◌, length, get_or};
 ghost use Rattle.drive.specs.Sends.{SentAll};
 

@@ -8,7 +8,7 @@ use arith::time::{Span, SpanSum, Sum, add_spans, add_up, gap, longer, multiply, 
 use model::{Rtt, Settings};
 
 // The estimates after a sample, or refusal 7.
-#[derive(Drop)]
+#[derive(Clone, Copy)]
 pub enum Updated {
     Accepted(Rtt),
     TooLarge,

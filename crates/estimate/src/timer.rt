@@ -10,21 +10,21 @@ use arith::time::{MomentSum, Span, SpanSum, add_spans, later, longer, scale};
 use model::{Epoch, HandshakeStatus, Rtt, Time, TimeAndSpace, TimerFacts};
 
 // A time and its space, or refusal 7.
-#[derive(Drop)]
+#[derive(Clone, Copy)]
 pub enum Chosen {
     Is(TimeAndSpace),
     TooLarge,
 }
 
 // What the timer is set to, or refusal 7.
-#[derive(Drop)]
+#[derive(Clone, Copy)]
 pub enum Armed {
     Is(Time),
     TooLarge,
 }
 
 // The space that probes go to, or refusal 7.
-#[derive(Drop)]
+#[derive(Clone, Copy)]
 pub enum Probed {
     Is(u64),
     TooLarge,

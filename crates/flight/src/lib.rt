@@ -1,1 +1,3 @@
 // Bytes in flight, over any calls. Nothing to run: what is said stands in specs/, its proof in proofs/.
+
+#![tactic(auto)]

@@ -9,7 +9,7 @@ use model::{Number, Refusal};
 use records::ranges::{are_ranges, hold};
 
 // The ack's delay, or the refusal that its numbers call for.
-#[derive(Drop)]
+#[derive(Clone, Copy)]
 pub enum Checked {
     Fine(Span),
     Refused(Refusal),

@@ -1,5 +1,7 @@
 // The library that a host links: its record of a connection is lent to each event and changed in place. 01 Replay and the host.
 // Each function takes the record apart, lends its words to the event by plain numbers, and puts the values back. No function has a `requires`.
+#![tactic(auto)]
+
 ghost use Rattle.std.specs.Prelude.{◌≡◌, List, ℕ};
 ghost use Rattle.serve.specs.Events.{BeginServed, SentServed, AckServed, TimeoutServed, DiscardServed, SizeServed, TakeAckedServed, TakeLostServed, PingServed};
 ghost use Rattle.serve.specs.Readouts.{readouts_of};

@@ -1,6 +1,8 @@
 // Replays a trace, from standard input or from a file, and prints for each event but ranges replay's line, what was answered and what the connection then keeps.
 // 01 'Replay and the host', for whoever hunts a fault in the field.
 // What `step` puts out, line after line, is proved to be the definition's text; that it is written is the C library's.
+#![tactic(auto)]
+
 ghost use Rattle.std.specs.Prelude.{◌≤◌, length};
 ghost use Rattle.playback.specs.Printed.{Sound};
 ghost use Rattle.inspect.specs.Inspected.{Inspects};

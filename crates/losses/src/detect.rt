@@ -19,7 +19,7 @@ use records::memory::{CAPACITY, Words, held, record_at};
 const QUEUE: u64 = 256;
 
 // What one record does to a loss detection: the scan goes on, or it ends there.
-#[derive(Drop)]
+#[derive(Clone, Copy)]
 enum Seen {
     On(LostTally),
     End(Detected),

@@ -2,14 +2,16 @@
 // A refusal may arise late in an event, so an event decides first, reading only, and stores when nothing can refuse any more.
 
 // Which records the ranges hold, a number for each place from the front on (1 where one does), and the place after the last such record.
-#[derive(Drop)]
+#![tactic(auto)]
+
+#[derive(Clone, Copy)]
 pub struct Covered {
     pub flags: [u8; 256],
     pub last: usize,
 }
 
 // What step 1 of an acknowledgement comes to, beside the marks.
-#[derive(Drop)]
+#[derive(Clone, Copy)]
 pub struct Tally {
     // handles in the acked queue, with those that are to be queued
     pub queued: u64,
@@ -26,7 +28,7 @@ pub struct Tally {
 }
 
 // What a loss detection comes to, beside the marks.
-#[derive(Drop)]
+#[derive(Clone, Copy)]
 pub struct LostTally {
     // handles in the queue of lost packets, with those that are to be queued
     pub queued: u64,
@@ -39,14 +41,14 @@ pub struct LostTally {
 }
 
 // What step 1 comes to, or the refusal that it reaches first.
-#[derive(Drop)]
+#[derive(Clone, Copy)]
 pub enum Surveyed {
     Fits(Tally),
     Refused(model::Refusal),
 }
 
 // A loss detection that ends: the place where the scan stops, and the space's loss time.
-#[derive(Drop)]
+#[derive(Clone, Copy)]
 pub struct Stop {
     pub tally: LostTally,
     pub place: usize,
@@ -54,14 +56,14 @@ pub struct Stop {
 }
 
 // What a loss detection comes to, or the refusal that it reaches first.
-#[derive(Drop)]
+#[derive(Clone, Copy)]
 pub enum Detected {
     Stops(Stop),
     Refused(model::Refusal),
 }
 
 // What one more lost record comes to, or the refusal.
-#[derive(Drop)]
+#[derive(Clone, Copy)]
 pub enum LossWeighed {
     Fits(LostTally),
     Refused(model::Refusal),

@@ -1,10 +1,12 @@
 // The values that the definitions and the code share. Types alone: what is done with them is said in specs/ and done in the crates above.
 // Names follow the Rust's where a reader will hold the two side by side.
+#![tactic(auto)]
+
 use arith::round::TimeThreshold;
 use arith::time::{Moment, Span};
 
 // 01's refusals, 1 to 7 in this order; `number_of` in specs/Numbers.antt has the numbers.
-#[derive(Drop)]
+#[derive(Clone, Copy)]
 pub enum Refusal {
     Clock,
     Domain,
@@ -16,21 +18,21 @@ pub enum Refusal {
 }
 
 // A moment, or none.
-#[derive(Drop)]
+#[derive(Clone, Copy)]
 pub enum Time {
     Unset,
     At(Moment),
 }
 
 // A packet number, or none.
-#[derive(Drop)]
+#[derive(Clone, Copy)]
 pub enum Number {
     Missing,
     Is(u64),
 }
 
 // What a connection is set up with.
-#[derive(Drop)]
+#[derive(Clone, Copy)]
 pub struct Settings {
     // bytes, 1,200 to 65,527
     pub max_datagram_size: u64,
@@ -43,7 +45,7 @@ pub struct Settings {
 }
 
 // What the host knows of the handshake, handed over with an event.
-#[derive(Drop)]
+#[derive(Clone, Copy)]
 pub struct HandshakeStatus {
     pub has_handshake_keys: bool,
     pub peer_verified_address: bool,
@@ -51,7 +53,7 @@ pub struct HandshakeStatus {
 }
 
 // One packet as it was sent, and what became of it.
-#[derive(Drop)]
+#[derive(Clone, Copy)]
 pub struct Sent {
     pub number: u64,
     pub time_sent: Moment,
@@ -69,7 +71,7 @@ pub struct Sent {
 }
 
 // A packet as the host hands it over to be sent.
-#[derive(Drop)]
+#[derive(Clone, Copy)]
 pub struct Packet {
     pub number: u64,
     // bytes
@@ -82,7 +84,7 @@ pub struct Packet {
 }
 
 // The round-trip estimates.
-#[derive(Drop)]
+#[derive(Clone, Copy)]
 pub struct Rtt {
     pub latest_rtt: Span,
     pub min_rtt: Span,
@@ -94,7 +96,7 @@ pub struct Rtt {
 }
 
 // CUBIC's own values: floats, with the bytes that wait to be added to the window.
-#[derive(Drop)]
+#[derive(Clone, Copy)]
 pub struct Cubic {
     pub k: f64,
     pub w_max: f64,
@@ -104,7 +106,7 @@ pub struct Cubic {
 }
 
 // What a rollback restores, as it stood before the latest recovery period began, and the lost count at that moment.
-#[derive(Drop)]
+#[derive(Clone, Copy)]
 pub struct PriorState {
     pub congestion_window: u64,
     pub ssthresh: u64,
@@ -115,7 +117,7 @@ pub struct PriorState {
 }
 
 // The congestion controller.
-#[derive(Drop)]
+#[derive(Clone, Copy)]
 pub struct Congestion {
     // bytes, at most 2^30
     pub congestion_window: u64,
@@ -131,7 +133,7 @@ pub struct Congestion {
 }
 
 // What a packet number space keeps beside its records and queues.
-#[derive(Drop)]
+#[derive(Clone, Copy)]
 pub struct Epoch {
     pub time_of_last_ack_eliciting_packet: Time,
     pub largest_acked_packet: Number,
@@ -142,7 +144,7 @@ pub struct Epoch {
 }
 
 // How much reordering is borne before a packet is lost, and the spurious losses that taught it.
-#[derive(Drop)]
+#[derive(Clone, Copy)]
 pub struct Reordering {
     pub pkt_thresh: u64,
     pub time_thresh: TimeThreshold,
@@ -150,7 +152,7 @@ pub struct Reordering {
 }
 
 // What the connection keeps beside its spaces.
-#[derive(Drop)]
+#[derive(Clone, Copy)]
 pub struct Shared {
     // the last accepted now
     pub clock: Moment,
@@ -167,7 +169,7 @@ pub struct Shared {
 }
 
 // What one loss detection holds fixed.
-#[derive(Drop)]
+#[derive(Clone, Copy)]
 pub struct Judge {
     pub now: Moment,
     pub delay: Span,
@@ -176,14 +178,14 @@ pub struct Judge {
 }
 
 // A time and the space that it is of.
-#[derive(Drop)]
+#[derive(Clone, Copy)]
 pub struct TimeAndSpace {
     pub time: Time,
     pub space: u64,
 }
 
 // What the timer goes by.
-#[derive(Drop)]
+#[derive(Clone, Copy)]
 pub struct TimerFacts {
     pub now: Moment,
     pub status: HandshakeStatus,
@@ -196,7 +198,7 @@ pub struct TimerFacts {
 }
 
 // What an accepted acknowledgement answers.
-#[derive(Drop)]
+#[derive(Clone, Copy)]
 pub struct OnAckReceivedOutcome {
     pub lost_packets: u64,
     pub lost_bytes: u64,
@@ -205,7 +207,7 @@ pub struct OnAckReceivedOutcome {
 }
 
 // What an accepted timeout answers.
-#[derive(Drop)]
+#[derive(Clone, Copy)]
 pub struct OnLossDetectionTimeoutOutcome {
     pub lost_packets: u64,
     pub lost_bytes: u64,

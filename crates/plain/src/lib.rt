@@ -1,13 +1,15 @@
 // A connection's values as plain numbers, for programs in other languages: any bytes are a valid record. What they stand for is said in specs/.
 // Made of numbers alone, in the order of their fields; a moment or a packet number that may be missing has a word beside it that says so.
 
+#![tactic(auto)]
+
 pub mod coded;
 pub mod opened;
 pub mod packed;
 
 // A moment in nanoseconds, or none where `set` is 0.
 #[repr(C)]
-#[derive(Drop)]
+#[derive(Clone, Copy)]
 pub struct TimeValue {
     pub set: u64,
     pub ns: u64,
@@ -15,7 +17,7 @@ pub struct TimeValue {
 
 // A packet number, or none where `set` is 0.
 #[repr(C)]
-#[derive(Drop)]
+#[derive(Clone, Copy)]
 pub struct NumberValue {
     pub set: u64,
     pub number: u64,
@@ -23,7 +25,7 @@ pub struct NumberValue {
 
 // A space: where its records and queues lie in the words, and what it keeps beside them.
 #[repr(C)]
-#[derive(Drop)]
+#[derive(Clone, Copy)]
 pub struct SpaceValues {
     pub head: u64,
     pub len: u64,
@@ -40,7 +42,7 @@ pub struct SpaceValues {
 
 // The round-trip estimates, in nanoseconds; no sample yet where `has_first_rtt_sample` is 0.
 #[repr(C)]
-#[derive(Drop)]
+#[derive(Clone, Copy)]
 pub struct RttValues {
     pub latest_rtt: u64,
     pub min_rtt: u64,
@@ -53,7 +55,7 @@ pub struct RttValues {
 
 // CUBIC's own values.
 #[repr(C)]
-#[derive(Drop)]
+#[derive(Clone, Copy)]
 pub struct CubicValues {
     pub k: f64,
     pub w_max: f64,
@@ -64,7 +66,7 @@ pub struct CubicValues {
 
 // What a rollback restores.
 #[repr(C)]
-#[derive(Drop)]
+#[derive(Clone, Copy)]
 pub struct PriorValues {
     pub congestion_window: u64,
     pub ssthresh: u64,
@@ -76,7 +78,7 @@ pub struct PriorValues {
 
 // The congestion controller.
 #[repr(C)]
-#[derive(Drop)]
+#[derive(Clone, Copy)]
 pub struct CongestionValues {
     pub congestion_window: u64,
     pub ssthresh: u64,
@@ -91,7 +93,7 @@ pub struct CongestionValues {
 
 // A connection but for its words. `seal` says that it was begun; `time_thresh` is 9/8 where it is 0, else 5/4.
 #[repr(C)]
-#[derive(Drop)]
+#[derive(Clone, Copy)]
 pub struct Values {
     pub seal: u64,
     pub initial: SpaceValues,

@@ -1,5 +1,7 @@
 // Any event of a trace, played on a connection's words and state. 01 'Replay and the host'.
 // No public function has a `requires`; each claims its whole answer.
+#![tactic(auto)]
+
 ghost use Rattle.model.specs.Run.{step};
 ghost use Rattle.connection.specs.View.{connection_of, Does};
 ghost use Rattle.trace.specs.Says.{event_says};
@@ -19,7 +21,7 @@ pub mod answers;
 mod events;
 
 // What an event answered, of whatever kind it was.
-#[derive(Drop)]
+#[derive(Clone, Copy)]
 pub enum Answered {
     Done,
     Ack(OnAckReceivedOutcome),
@@ -30,7 +32,7 @@ pub enum Answered {
 }
 
 // The answer, and the state after it; after a refusal it is the state before.
-#[derive(Drop)]
+#[derive(Clone, Copy)]
 pub struct Played {
     pub answered: Answered,
     pub state: State,

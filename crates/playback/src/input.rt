@@ -6,7 +6,7 @@ ghost use Rattle.playback.specs.Input.{Within};
 pub const LONGEST: usize = 65536;
 
 // How many bytes were read, or that a read failed.
-#[derive(Drop)]
+#[derive(Clone, Copy)]
 pub enum Input {
     Bytes(usize),
     Failed,

@@ -1,5 +1,7 @@
 // A trace replayed, a turn for each range and each event. 01 'Replay and the host'.
 // No public function has a `requires`; each claims its whole answer, but for what is read: no contract can say that.
+#![tactic(auto)]
+
 ghost use Rattle.std.specs.Prelude.{◌≡◌, ◌+◌, min, take};
 ghost use Rattle.trace.specs.Reading.{found_at, kind_at, next_at};
 ghost use Rattle.play.specs.Answers.{answered_says};
@@ -19,7 +21,7 @@ pub mod progress;
 pub mod start;
 
 // Where a replay stands in its trace.
-#[derive(Drop)]
+#[derive(Clone, Copy)]
 pub struct Replay {
     // the offset of the next kind byte
     pub at: usize,
@@ -31,7 +33,7 @@ pub struct Replay {
 }
 
 // What a turn met: the trace's end, no known kind with a whole body, a range, or an event of a kind with its answer.
-#[derive(Drop)]
+#[derive(Clone, Copy)]
 pub enum Met {
     End,
     Bad,
@@ -40,7 +42,7 @@ pub enum Met {
 }
 
 // What was met, and where the replay stands after it.
-#[derive(Drop)]
+#[derive(Clone, Copy)]
 pub struct Turned {
     pub met: Met,
     pub replay: Replay,

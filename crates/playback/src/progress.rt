@@ -15,7 +15,7 @@ use trace::Text;
 use trace::line::{bad_at, end};
 
 // How far a replay is, and how much of it is told.
-#[derive(Drop)]
+#[derive(Clone, Copy)]
 pub struct Progress {
     // the last line is told
     pub ended: bool,

@@ -1,5 +1,7 @@
 // Replays a trace, from standard input or from a file, and prints a line for each event but ranges. 01 'Replay and the host'.
 // What `fill` puts out, chunk after chunk, is proved to be the definition's lines; that they are written is the C library's.
+#![tactic(auto)]
+
 ghost use Rattle.std.specs.Prelude.{◌+◌, ◌≤◌, length};
 ghost use Rattle.playback.specs.Printed.{Sound, Shows};
 

@@ -1,5 +1,7 @@
 // The events of a connection's record, by plain numbers: the words are lent, the values go in and come back. One function for each event.
 // A record that was never begun is refused with 2, and a refused event gives back the values that it got. No public function has a `requires`.
+#![tactic(auto)]
+
 use plain::Values;
 use records::memory::Words;
 
@@ -15,14 +17,14 @@ pub mod timeouts;
 
 // The record that a host holds: the words of its records and queues, and everything else.
 #[repr(C)]
-#[derive(Drop)]
+#[derive(Clone, Copy)]
 pub struct Connection {
     pub words: Words,
     pub values: Values,
 }
 
 // The number of the refusal, or 0; the values after the event.
-#[derive(Drop)]
+#[derive(Clone, Copy)]
 pub struct Done {
     pub answer: u64,
     pub values: Values,
@@ -30,7 +32,7 @@ pub struct Done {
 
 // The number of the refusal, with zeros beside it; or 0, with what came of the ack.
 #[repr(C)]
-#[derive(Drop)]
+#[derive(Clone, Copy)]
 pub struct AckAnswer {
     pub refusal: u64,
     pub lost_packets: u64,
@@ -39,7 +41,7 @@ pub struct AckAnswer {
     pub spurious_losses: u64,
 }
 
-#[derive(Drop)]
+#[derive(Clone, Copy)]
 pub struct AckDone {
     pub answer: AckAnswer,
     pub values: Values,
@@ -47,14 +49,14 @@ pub struct AckDone {
 
 // The same of a timeout.
 #[repr(C)]
-#[derive(Drop)]
+#[derive(Clone, Copy)]
 pub struct TimeoutAnswer {
     pub refusal: u64,
     pub lost_packets: u64,
     pub lost_bytes: u64,
 }
 
-#[derive(Drop)]
+#[derive(Clone, Copy)]
 pub struct TimeoutDone {
     pub answer: TimeoutAnswer,
     pub values: Values,
@@ -62,13 +64,13 @@ pub struct TimeoutDone {
 
 // The same of a handle that is taken.
 #[repr(C)]
-#[derive(Drop)]
+#[derive(Clone, Copy)]
 pub struct TakeAnswer {
     pub refusal: u64,
     pub handle: u64,
 }
 
-#[derive(Drop)]
+#[derive(Clone, Copy)]
 pub struct TakeDone {
     pub answer: TakeAnswer,
     pub values: Values,

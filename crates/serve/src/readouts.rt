@@ -14,7 +14,7 @@ use plain::packed::of_bool;
 
 // A number for each space; 1 for yes.
 #[repr(C)]
-#[derive(Drop)]
+#[derive(Clone, Copy)]
 pub struct OfSpaces {
     pub initial: u64,
     pub handshake: u64,
@@ -23,7 +23,7 @@ pub struct OfSpaces {
 
 // Bytes that may be sent; the PTO in nanoseconds, or that it is too large; whether to elicit an ack, and whether a lost handle waits.
 #[repr(C)]
-#[derive(Drop)]
+#[derive(Clone, Copy)]
 pub struct Readouts {
     pub cwnd_available: u64,
     pub pto_is_too_large: u64,

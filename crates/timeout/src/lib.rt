@@ -1,5 +1,7 @@
 // The loss detection timeout of a connection, on one lent array of words and a few values. 01 Timer and PTO (000); RFC 9002 sections 6.1.2 and 6.2.
 // A timeout decides first, reading only, and stores when nothing can refuse any more. No public function has a `requires`.
+#![tactic(auto)]
+
 ghost use Rattle.std.specs.Prelude.{◌≡◌};
 ghost use Rattle.model.specs.Connection.{with_timer};
 ghost use Rattle.model.specs.Events.{shared_timeout, on_loss_detection_timeout};
@@ -20,14 +22,14 @@ mod loss;
 mod probe;
 
 // What a timeout answers.
-#[derive(Drop)]
+#[derive(Clone, Copy)]
 pub enum TimeoutOutcome {
     Accepted(OnLossDetectionTimeoutOutcome),
     Refused(Refusal),
 }
 
 // The answer, and the state after it; after a refusal it is the state before.
-#[derive(Drop)]
+#[derive(Clone, Copy)]
 pub struct TimingOut {
     pub outcome: TimeoutOutcome,
     pub state: State,

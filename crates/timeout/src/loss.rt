@@ -22,14 +22,14 @@ use tracker::steps::epoch_detected;
 use tracker::{LossPlan, Losses};
 
 // What a timeout with a loss time has decided: the losses, and the state after it.
-#[derive(Drop)]
+#[derive(Clone, Copy)]
 pub struct LossStep {
     pub losses: Losses,
     pub state: State,
 }
 
 // A decision, or the refusal that is reached first.
-#[derive(Drop)]
+#[derive(Clone, Copy)]
 pub enum LossTimeout {
     Decided(LossStep),
     Refused(Refusal),

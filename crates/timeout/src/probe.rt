@@ -21,7 +21,7 @@ use records::probe::probe_handles;
 const MAX_PTO_COUNT: u64 = 4294967295;
 
 // What a timeout without a loss time has decided: the space, its probes, and what the spaces share then, the timer set.
-#[derive(Drop)]
+#[derive(Clone, Copy)]
 pub struct Probes {
     pub space: u64,
     pub probes: u64,
@@ -29,7 +29,7 @@ pub struct Probes {
 }
 
 // A decision, or refusal 7.
-#[derive(Drop)]
+#[derive(Clone, Copy)]
 pub enum ProbePlan {
     Decided(Probes),
     TooLarge,

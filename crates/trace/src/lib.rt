@@ -1,5 +1,7 @@
 // A trace's bytes read as events, and the lines that a replay prints, on slices. 01 'Replay and the host'.
 // No public function has a `requires`; each claims its whole answer, for any bytes and any offset.
+#![tactic(auto)]
+
 use arith::time::Moment;
 use model::{HandshakeStatus, Number, Packet};
 
@@ -9,7 +11,7 @@ pub mod put;
 pub mod read;
 
 // What the bodies of the trace's kinds say: a packet sent, an ack on the held ranges, a timeout, a discarded space.
-#[derive(Drop)]
+#[derive(Clone, Copy)]
 pub struct SentEvent {
     pub time: Moment,
     pub space: u64,
@@ -17,7 +19,7 @@ pub struct SentEvent {
     pub status: HandshakeStatus,
 }
 
-#[derive(Drop)]
+#[derive(Clone, Copy)]
 pub struct AckEvent {
     pub time: Moment,
     pub space: u64,
@@ -28,13 +30,13 @@ pub struct AckEvent {
     pub skipped: Number,
 }
 
-#[derive(Drop)]
+#[derive(Clone, Copy)]
 pub struct TimeoutEvent {
     pub time: Moment,
     pub status: HandshakeStatus,
 }
 
-#[derive(Drop)]
+#[derive(Clone, Copy)]
 pub struct DiscardEvent {
     pub time: Moment,
     pub space: u64,
@@ -42,7 +44,7 @@ pub struct DiscardEvent {
 }
 
 // The trace's kinds but ranges: a size change has the size, takes and pings the space.
-#[derive(Drop)]
+#[derive(Clone, Copy)]
 pub enum Event {
     Sent(SentEvent),
     Ack(AckEvent),
@@ -55,14 +57,14 @@ pub enum Event {
 }
 
 // A range of packet numbers, half-open.
-#[derive(Drop)]
+#[derive(Clone, Copy)]
 pub struct Range {
     pub start: u64,
     pub end: u64,
 }
 
 // What stands at an offset of a trace: its end, no known kind with a whole body, a range or an event.
-#[derive(Drop)]
+#[derive(Clone, Copy)]
 pub enum Found {
     End,
     Bad,
@@ -71,7 +73,7 @@ pub enum Found {
 }
 
 // A line's bytes, its newline with them, and zeros behind.
-#[derive(Drop)]
+#[derive(Clone, Copy)]
 pub struct Text {
     pub bytes: [u8; 96],
     pub length: usize,

@@ -17,14 +17,14 @@ use model::{HandshakeStatus, Number, OnAckReceivedOutcome, Refusal};
 use records::memory::{Words, full};
 
 // What came of the ack, or the refusal.
-#[derive(Drop)]
+#[derive(Clone, Copy)]
 pub enum AckOutcome {
     Accepted(OnAckReceivedOutcome),
     Refused(Refusal),
 }
 
 // The state after it; after a refusal it is the state before.
-#[derive(Drop)]
+#[derive(Clone, Copy)]
 pub struct Acking {
     pub outcome: AckOutcome,
     pub state: State,

@@ -1,5 +1,7 @@
 // The tracker: acknowledgements of a connection, on one lent array of words and a few values; and the loss detection that timeouts share.
 // An event decides first, reading only, and stores when nothing can refuse any more. No public function has a `requires`.
+#![tactic(auto)]
+
 use connection::SpaceState;
 use marks::LostTally;
 use model::{OnAckReceivedOutcome, Refusal, Reordering, Shared, Time};
@@ -11,7 +13,7 @@ pub mod detect;
 pub mod steps;
 
 // A loss detection: its sums, the place where it stops, the space's loss time, and the first record that stays.
-#[derive(Drop)]
+#[derive(Clone, Copy)]
 pub struct Losses {
     pub tally: LostTally,
     pub stop: usize,
@@ -20,14 +22,14 @@ pub struct Losses {
 }
 
 // A loss detection, or the refusal that it reaches first.
-#[derive(Drop)]
+#[derive(Clone, Copy)]
 pub enum LossPlan {
     Ends(Losses),
     Refused(Refusal),
 }
 
 // What an acknowledgement or a loss detection has decided.
-#[derive(Drop)]
+#[derive(Clone, Copy)]
 pub struct Plan {
     // the space and what is shared, as they will be
     pub space: SpaceState,
@@ -40,14 +42,14 @@ pub struct Plan {
 }
 
 // A decision, or the refusal that is reached first.
-#[derive(Drop)]
+#[derive(Clone, Copy)]
 pub enum Planned {
     Accepted(Plan),
     Refused(Refusal),
 }
 
 // The reordering that is borne from then on, or refusal 7.
-#[derive(Drop)]
+#[derive(Clone, Copy)]
 pub enum Reordered {
     Is(Reordering),
     TooLarge,

@@ -1,29 +1,31 @@
 // The core by value: a record goes in, and comes back beside the answer. 01 Replay and the host.
 // Each event is the one that `serve` does on lent words, claimed in the same words. No public function has a `requires`.
+#![tactic(auto)]
+
 ghost use Rattle.serve.specs.Events.{BeginServed, SentServed, AckServed, TimeoutServed, DiscardServed, SizeServed, TakeAckedServed, TakeLostServed, PingServed};
 
 use serve::{AckAnswer, Connection, TakeAnswer, TimeoutAnswer};
 
 // The answer, and the record after the event.
-#[derive(Drop)]
+#[derive(Clone, Copy)]
 pub struct After {
     pub answer: u64,
     pub connection: Connection,
 }
 
-#[derive(Drop)]
+#[derive(Clone, Copy)]
 pub struct AfterAck {
     pub answer: AckAnswer,
     pub connection: Connection,
 }
 
-#[derive(Drop)]
+#[derive(Clone, Copy)]
 pub struct AfterTimeout {
     pub answer: TimeoutAnswer,
     pub connection: Connection,
 }
 
-#[derive(Drop)]
+#[derive(Clone, Copy)]
 pub struct AfterTake {
     pub answer: TakeAnswer,
     pub connection: Connection,
