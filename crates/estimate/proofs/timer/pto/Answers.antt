@@ -1,6 +1,5 @@
 -- `timer::pto` meets its contract: each return rewrites the definition by what the calls answered and the tests showed.
 use Rattle.model.specs.Timer.{pto_of}
-use Rattle.estimate.proofs.timer.pto.Goals.{After-longer}
 use Rattle.estimate.proofs.timer.pto.Goals as goal
 
 pub returns-in_default : goal.returns-in_default
@@ -9,8 +8,4 @@ returns-in_default c = rw (← c.scale.ensures, c.in_default.is)
 
 pub returns : goal.returns
 unfolding pto_of
-returns c =
-    let at-longer = (goal.at.returns c).After-longer in
-    let at-v = at-longer.before.before in
-    let at-scale = at-v.before.before in
-    rw (← at-scale.scale.ensures, at-v.v.given.1, ← at-longer.longer.ensures, ← c.add_spans.ensures)
+returns c = rw (← c.scale.ensures, c.in-SpanOf.is, ← c.longer.ensures, ← c.add_spans.ensures)

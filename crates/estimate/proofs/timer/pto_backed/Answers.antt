@@ -1,6 +1,5 @@
 -- `timer::pto_backed` meets its contract: each return rewrites the definition by what the calls answered and the tests showed.
 use Rattle.model.specs.Timer.{pto_backed}
-use Rattle.estimate.proofs.timer.pto_backed.Goals.{After-backoff}
 use Rattle.estimate.proofs.timer.pto_backed.Goals as goal
 
 pub returns-in_default : goal.returns-in_default
@@ -9,8 +8,4 @@ returns-in_default c = rw (← c.pto.ensures, c.in_default.is)
 
 pub returns : goal.returns
 unfolding pto_backed
-returns c =
-    let at-backoff = (goal.at.returns c).After-backoff in
-    let at_p = at-backoff.before.before in
-    let at-pto = at_p.before.before in
-    rw (← at-pto.pto.ensures, at_p.p.given.1, ← at-backoff.backoff.ensures, ← c.scale.ensures)
+returns c = rw (← c.pto.ensures, c.in-SpanOf.is, ← c.backoff.ensures, ← c.scale.ensures)

@@ -1,6 +1,5 @@
 -- `timer::pto_from` meets its contract: each return rewrites the definition by what the calls answered and the tests showed.
 use Rattle.model.specs.Timer.{pto_from}
-use Rattle.estimate.proofs.timer.pto_from.Goals.{In-MomentOf}
 use Rattle.estimate.proofs.timer.pto_from.Goals as goal
 
 pub returns-in_default : goal.returns-in_default
@@ -13,8 +12,4 @@ returns-in_default-later c = rw (c.in-At.is, ← c.later.ensures, c.in_default-l
 
 pub returns : goal.returns
 unfolding pto_from
-returns c =
-    let at-m = (goal.at.returns c).In-MomentOf in
-    let at-later = at-m.before.before in
-    let at_last = at-later.before.before in
-    rw (at_last.last.given.1, ← at-later.later.ensures, at-m.m.given.1)
+returns c = rw (c.in-At.is, ← c.later.ensures, c.in-MomentOf.is)

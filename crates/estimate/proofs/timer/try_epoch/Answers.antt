@@ -1,7 +1,6 @@
 -- `timer::try_epoch` meets its contract: each return rewrites the definition by what the calls answered and the tests showed.
 use borrow.Author.Tests.{eq-eqb, ne_eqb}
 use Rattle.model.specs.Timer.{try_epoch}
-use Rattle.estimate.proofs.timer.try_epoch.Goals.{In-Is}
 use Rattle.estimate.proofs.timer.try_epoch.Goals as goal
 
 pub returns-then-e-eq0 : goal.returns-then-e-eq0
@@ -14,8 +13,4 @@ returns-in_default c = rw (ne_eqb _ _ c.if-e-eq0.false, ← c.pto_from.ensures, 
 
 pub returns : goal.returns
 unfolding try_epoch
-returns c =
-    let at-t = (goal.at.returns c).In-Is in
-    let at-pto-from = at-t.before.before in
-    let at-if1 = at-pto-from.before in
-    rw (ne_eqb _ _ at-if1.if1.false, ← at-pto-from.pto-from.ensures, at-t.t.given.1, ← c.better.ensures)
+returns c = rw (ne_eqb _ _ c.if-e-eq0.false, ← c.pto_from.ensures, c.in-Is.is, ← c.better.ensures)
