@@ -3,10 +3,10 @@ use Rattle.records.proofs.Pairs.{last_none, last-odd, last-even}
 use Rattle.records.proofs.ranges.last_end.Goals as goal
 
 pub returns-then-words-eq0 : goal.returns-then-words-eq0
-returns-then-words-eq0 c = last_none _ c.if-words-eq0.taken
+returns-then-words-eq0 c = last_none _ c.if-words-eq0.true
 
 pub returns-then-words-eq1 : goal.returns-then-words-eq1
-returns-then-words-eq1 c = last-odd _ c.if-words-eq1.taken
+returns-then-words-eq1 c = last-odd _ c.if-words-eq1.true
 
 pub returns : goal.returns
-returns c = last-even _ c.if-words-eq1.left
+returns c = last-even _ c.if-words-eq1.false

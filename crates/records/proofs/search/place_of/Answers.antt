@@ -4,4 +4,4 @@ use Rattle.records.proofs.Halving.{place-memory}
 use Rattle.records.proofs.search.place_of.Goals as goal
 
 pub returns : goal.returns
-returns c = rw (c.IsPlace-in.ensures, c.held.ensures) (sym (place-memory _ _ _ _ _))
+returns c = rw (c.place_in.ensures, c.held.ensures) (sym (place-memory _ _ _ _ _))
