@@ -121,10 +121,10 @@ module _ (m : List ℕ) (full : length m ≡ all_words) (n : ℕ) (nn : n < 3) (
   shown-then (accepted a) f = refl
   shown-then (refused k) f = refl
 
-  shown_by : {A B : Type 0} (x : Result A) (f : A → B) (g : B → Result (Step OnAckReceivedOutcome)) →
+  shown_by_lem : {A B : Type 0} (x : Result A) (f : A → B) (g : B → Result (Step OnAckReceivedOutcome)) →
       shown (then (then x (λ a. accepted (f a))) g) ≡ then x (λ a. shown (g (f a)))
-  shown_by (accepted a) f g = refl
-  shown_by (refused k) f g = refl
+  shown_by_lem (accepted a) f g = refl
+  shown_by_lem (refused k) f g = refl
 
   gone-none : (from : ℕ) → gone_handles m n q.head fs from from ≡ []
   unfolding handles_of standing_of ring
@@ -281,7 +281,7 @@ module _ (m : List ℕ) (full : length m ≡ all_words) (n : ℕ) (nn : n < 3) (
         (shown-then (sampled_by now delay status q.epoch.largest_acked_packet last t.eliciting s.shared.rtt) _
         ∙ then-then shown_by (sampled_by now delay status q.epoch.largest_acked_packet last t.eliciting s.shared.rtt) _ _ λ rtt e.
         rw (losses-view m n q fs now from fits acks again epoch rtt o s.shared.bytes_in_flight)
-        (shown_by (plan_losses m n q fs now rtt o largest t.in_flight from) (detection m n q fs now from fits acks again epoch s.shared.bytes_in_flight) _
+        (shown_by_lem (plan_losses m n q fs now rtt o largest t.in_flight from) (detection m n q fs now from fits acks again epoch s.shared.bytes_in_flight) _
         ∙ then-then shown_by (plan_losses m n q fs now rtt o largest t.in_flight from) _ _ λ l f.
         shown-then (control (moves_of m n q fs now limited rtt.min_rtt t l) s.shared.congestion) _
         ∙ then-then shown_by (control (moves_of m n q fs now limited rtt.min_rtt t l) s.shared.congestion) _ _ λ g h.

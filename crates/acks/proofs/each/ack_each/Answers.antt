@@ -1,10 +1,10 @@
 -- `acks::each::ack_each` meets its contract. Invariant: the moves of the places left, from the controller so far, are the moves of all.
-use mathlib.Core.Logic.{⊎_elim}
 use borrow.Author.Tests.{eq-eqb, ne_eqb}
 use Rattle.acks.proofs.Turns.{each_start, each_on, each-off, each-ends, each-end, each-round}
 use Prim.Native.Nat.{◌-◌}
 use mathlib.Core.Path.{◌∙◌}
 use native.Mathlib.Omega.{arith}
+use Rattle.acks.proofs.each.ack_each.Goals.{then-flags-i-eq1+in-Accepted, else-flags-i-eq1}
 use Rattle.acks.proofs.each.ack_each.Goals as goal
 
 pub loop-i-init : goal.loop-i-init
@@ -17,13 +17,12 @@ returns-in-Refused c =
 
 pub loop-i-preserved : goal.loop-i-preserved
 loop-i-preserved c =
-    let inv = c.loop-i.invariant.1 in (
-      omega arith,
-      ⊎_elim
-          (λ w. rw w.5 (each_on _ _ _ _ _ _ _ _ inv c.loop-i-test.true (eq-eqb _ _ w.0.taken) w.1.ensures w.3.given.1))
-          (λ w. rw w.1 (each-off _ _ _ _ _ _ _ _ inv c.loop-i-test.true (ne_eqb _ _ w.0.left)))
-          c.if-flags-i-eq1.branch,
-    )
+    let inv = c.loop-i.invariant.1 in
+    (omega arith,
+    elim c.if-flags-i-eq1.branch [
+      then-flags-i-eq1+in-Accepted w ↦ rw w.after-is (each_on _ _ _ _ _ _ _ _ inv c.loop-i-test.true (eq-eqb _ _ w.if-flags-i-eq1.true) w.ack_one-one.ensures w.in-Accepted.is)
+    | else-flags-i-eq1 w ↦ rw w.after-is (each-off _ _ _ _ _ _ _ _ inv c.loop-i-test.true (ne_eqb _ _ w.if-flags-i-eq1.false))
+    ])
 
 pub returns : goal.returns
 returns c =

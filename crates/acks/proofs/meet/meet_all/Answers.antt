@@ -1,10 +1,10 @@
 -- `acks::meet::meet_all` meets its contract. Invariant: the survey of the places left, from the tally so far, is the survey of all.
-use mathlib.Core.Logic.{⊎_elim}
 use borrow.Author.Tests.{eq-eqb, ne_eqb}
 use Rattle.acks.proofs.Fitting.{meeting-none, meeting-room, meeting-on, meeting-off, meeting-ends, meeting-end, meeting-round}
 use Prim.Native.Nat.{◌-◌}
 use mathlib.Core.Path.{◌∙◌}
 use native.Mathlib.Omega.{arith}
+use Rattle.acks.proofs.meet.meet_all.Goals.{then-flags-i-eq1+in-Fits, else-flags-i-eq1}
 use Rattle.acks.proofs.meet.meet_all.Goals as goal
 
 pub loop-i-init : goal.loop-i-init
@@ -21,10 +21,10 @@ returns-in-Refused c =
 pub loop-i-preserved : goal.loop-i-preserved
 loop-i-preserved c =
     let inv = c.loop-i.invariant in
-    ⊎_elim
-    (λ w. rw w.6 (meeting-on inv c.loop-i-test.true (eq-eqb _ _ w.0.taken) w.1.ensures w.2.ensures w.4.given.1))
-    (λ w. rw w.1 (meeting-off inv c.loop-i-test.true (ne_eqb _ _ w.0.left)))
-    c.if-flags-i-eq1.branch
+    elim c.if-flags-i-eq1.branch [
+      then-flags-i-eq1+in-Fits w ↦ rw w.t-is (meeting-on inv c.loop-i-test.true (eq-eqb _ _ w.if-flags-i-eq1.true) w.record_at.ensures w.meet-one.ensures w.in-Fits.is)
+    | else-flags-i-eq1 w ↦ rw w.t-is (meeting-off inv c.loop-i-test.true (ne_eqb _ _ w.if-flags-i-eq1.false))
+    ]
 
 pub returns : goal.returns
 returns c =
