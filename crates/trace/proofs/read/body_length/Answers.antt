@@ -32,7 +32,7 @@ pub returns-in-7-to-9 : goal.returns-in-7-to-9
 returns-in-7-to-9 c = body-space _ (omega arith) (omega arith)
 
 pub returns-in_default : goal.returns-in_default
-returns-in_default c = body-none _ c.if-kind-lt1.true
+returns-in_default c = body-none _ (omega arith)
 
 pub returns-in_default-2 : goal.returns-in_default-2
-returns-in_default-2 c = body-unknown _ c.if-kind-lt10.false
+returns-in_default-2 c = body-unknown _ (omega arith)

@@ -1,5 +1,5 @@
 -- `read::event_at` meets its contract, kind by kind.
-use mathlib.Core.Path.{refl, sym, ◌∙◌}
+use mathlib.Core.Path.{◌≡◌, refl, sym, ◌∙◌}
 use native.Mathlib.Omega.{arith}
 use Rattle.model.specs.Trace.{body_length, event_of}
 use Rattle.trace.proofs.Bodies.{room_by}
@@ -60,4 +60,12 @@ returns-in-8 c =
 
 pub returns-in_default : goal.returns-in_default
 returns-in_default c =
-    let args = c.args in rw c.number_at-in_default.ensures (sym (ping-read args.bytes.now args.at args.kind c.in_default.rest.0.0.0.0.0.0.1 c.in_default.rest.0.0.0.0.0.1 c.in_default.rest.0.0.0.0.1 c.in_default.rest.0.0.0.1 c.in_default.rest.0.0.1 c.in_default.rest.0.1 c.in_default.rest.1 c.requires.0))
+    let args = c.args in
+    let not-1 : args.kind ≡ 1 → ⊥ = omega arith in
+    let not-3 : args.kind ≡ 3 → ⊥ = omega arith in
+    let not-4 : args.kind ≡ 4 → ⊥ = omega arith in
+    let not-5 : args.kind ≡ 5 → ⊥ = omega arith in
+    let not-6 : args.kind ≡ 6 → ⊥ = omega arith in
+    let not-7 : args.kind ≡ 7 → ⊥ = omega arith in
+    let not-8 : args.kind ≡ 8 → ⊥ = omega arith in
+    rw c.number_at-in_default.ensures (sym (ping-read args.bytes.now args.at args.kind not-1 not-3 not-4 not-5 not-6 not-7 not-8 c.requires.0))
