@@ -8,4 +8,4 @@ use Rattle.play.proofs.events.play_ping.Goals as goal
 pub returns : goal.returns
 unfolding run.step event_says
 returns c m =
-    rw c.done.ensures (told (λ (x : ℕ). run.done) _ _ _ (done-says c.before.ping-sent.result.outcome) (c.before.ping-sent.ensures m))
+    rw c.done.ensures (told (λ (x : ℕ). run.done) _ _ _ (done-says c.ping_sent.result.outcome) (c.ping_sent.ensures m))

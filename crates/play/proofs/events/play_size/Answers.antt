@@ -8,4 +8,4 @@ use Rattle.play.proofs.events.play_size.Goals as goal
 pub returns : goal.returns
 unfolding run.step event_says
 returns c m =
-    rw c.done.ensures (told (λ (x : ℕ). run.done) _ _ _ (done-says c.before.pmtud-update-max-datagram-size.result.outcome) (c.before.pmtud-update-max-datagram-size.ensures m))
+    rw c.done.ensures (told (λ (x : ℕ). run.done) _ _ _ (done-says c.pmtud_update_max_datagram_size.result.outcome) (c.pmtud_update_max_datagram_size.ensures m))
