@@ -2,7 +2,7 @@
  * A sender loses a packet, loses another a flight later, and takes the second reduction back when it turns out that
  * only one packet was gone: 12,000, 8,400, 5,880 and 8,400 bytes of window. One line a call.
  *
- *   rt staticlib host
+ *   .ci/library
  *   cc -std=c99 -Iinclude examples/c/rollback.c target/staticlib/libhost.a -o rollback && ./rollback
  */
 #include <inttypes.h>

@@ -2,7 +2,7 @@
 //! when it turns out that only one packet was gone: 12,000, 8,400, 5,880 and 8,400 bytes of
 //! window. One line a call; the same as ../c/rollback.c prints.
 //!
-//!     rt staticlib host
+//!     .ci/library
 //!     cargo run --manifest-path rust/skavvilet/Cargo.toml --example rollback
 
 #![allow(clippy::single_range_in_vec_init)]

@@ -1,5 +1,5 @@
 //! Finds libhost.a, the proved library: in SKAVVILET_LIB_DIR, else in the repository's
-//! target/staticlib, where `rt staticlib host` writes it.
+//! target/staticlib, where `.ci/library` writes it.
 
 use std::path::PathBuf;
 use std::{env, fs};
@@ -21,7 +21,7 @@ fn main() {
         }
         // `cargo check` and `cargo doc` need no library; linking will fail with this above it.
         _ => println!(
-            "cargo:warning=no {}: run `rt staticlib host`, or set {VARIABLE}",
+            "cargo:warning=no {}: run `.ci/library`, or set {VARIABLE}",
             library.display()
         ),
     }

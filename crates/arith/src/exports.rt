@@ -1,4 +1,4 @@
-// The crate's functions under plain names, on numbers alone, for programs in other languages.
+// The crate's functions under plain names, on numbers alone. Crate arith_c exports them to programs in other languages.
 ghost use Rattle.std.specs.Prelude.{◌≡◌};
 ghost use Rattle.arith.specs.Time.{span, span_value};
 ghost use Rattle.arith.specs.Root.{root_number, root_value};
@@ -10,8 +10,7 @@ use crate::round::{TimeThreshold, rounded_product, seconds_of, truncated};
 use crate::time::{Span, SpanSum};
 
 // The root, and +0 where it is refused.
-#[unsafe(no_mangle)]
-pub extern "C" fn skavvilet_cube_root(x: f64) -> f64
+pub fn skavvilet_cube_root(x: f64) -> f64
     ensures { result ≡ root_value (root_of x) }
 {
     match cube_root(x) {
@@ -21,8 +20,7 @@ pub extern "C" fn skavvilet_cube_root(x: f64) -> f64
 }
 
 // The number of the root's refusal, and 0 where there is none.
-#[unsafe(no_mangle)]
-pub extern "C" fn skavvilet_cube_root_refusal(x: f64) -> u8
+pub fn skavvilet_cube_root_refusal(x: f64) -> u8
     ensures { result ≡ root_number (root_of x) }
 {
     match cube_root(x) {
@@ -42,8 +40,7 @@ fn threshold(spurious: bool) -> TimeThreshold
 }
 
 // The nanoseconds of a loss delay, and 0 where it is refused.
-#[unsafe(no_mangle)]
-pub extern "C" fn skavvilet_rounded_product(ns: u64, spurious: bool) -> u64
+pub fn skavvilet_rounded_product(ns: u64, spurious: bool) -> u64
     ensures { result ≡ span_value (product_of (span ns) (threshold_of spurious)) }
 {
     match rounded_product(Span(ns), threshold(spurious)) {
@@ -52,15 +49,13 @@ pub extern "C" fn skavvilet_rounded_product(ns: u64, spurious: bool) -> u64
     }
 }
 
-#[unsafe(no_mangle)]
-pub extern "C" fn skavvilet_truncated(x: f64) -> u64
+pub fn skavvilet_truncated(x: f64) -> u64
     ensures { result ≡ truncated_of x }
 {
     truncated(x)
 }
 
-#[unsafe(no_mangle)]
-pub extern "C" fn skavvilet_seconds_of(ns: u64) -> f64
+pub fn skavvilet_seconds_of(ns: u64) -> f64
     ensures { result ≡ seconds_of (span ns) }
 {
     seconds_of(Span(ns))

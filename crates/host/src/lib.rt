@@ -12,8 +12,7 @@ use serve::readouts::Readouts;
 use serve::{AckAnswer, Connection, TakeAnswer, TimeoutAnswer};
 
 // A record is begun, whatever stands in it. Spans in nanoseconds. The number of the refusal, or 0.
-#[unsafe(no_mangle)]
-pub extern "C" fn skavvilet_begin(
+pub fn skavvilet_begin(
     c: &mut Connection,
     max_datagram_size: u64,
     initial_window_packets: u64,
@@ -35,8 +34,7 @@ pub extern "C" fn skavvilet_begin(
 }
 
 // A packet is sent, at a time in nanoseconds. The number of the refusal, or 0.
-#[unsafe(no_mangle)]
-pub extern "C" fn skavvilet_on_packet_sent(
+pub fn skavvilet_on_packet_sent(
     c: &mut Connection,
     time: u64,
     space: u64,
@@ -64,8 +62,7 @@ pub extern "C" fn skavvilet_on_packet_sent(
 }
 
 // An acknowledgement: ranges as start and end in turn, the delay in microseconds.
-#[unsafe(no_mangle)]
-pub extern "C" fn skavvilet_on_ack_received(
+pub fn skavvilet_on_ack_received(
     c: &mut Connection,
     time: u64,
     space: u64,
@@ -93,8 +90,7 @@ pub extern "C" fn skavvilet_on_ack_received(
 }
 
 // The loss detection timer runs out.
-#[unsafe(no_mangle)]
-pub extern "C" fn skavvilet_on_loss_detection_timeout(
+pub fn skavvilet_on_loss_detection_timeout(
     c: &mut Connection,
     time: u64,
     status: u8,
@@ -107,8 +103,7 @@ pub extern "C" fn skavvilet_on_loss_detection_timeout(
 }
 
 // A space is discarded with its keys. The number of the refusal, or 0.
-#[unsafe(no_mangle)]
-pub extern "C" fn skavvilet_on_pkt_num_space_discarded(
+pub fn skavvilet_on_pkt_num_space_discarded(
     c: &mut Connection,
     time: u64,
     space: u64,
@@ -122,8 +117,7 @@ pub extern "C" fn skavvilet_on_pkt_num_space_discarded(
 }
 
 // A datagram size that path MTU discovery found. The number of the refusal, or 0.
-#[unsafe(no_mangle)]
-pub extern "C" fn skavvilet_pmtud_update_max_datagram_size(c: &mut Connection, size: u64) -> u64
+pub fn skavvilet_pmtud_update_max_datagram_size(c: &mut Connection, size: u64) -> u64
     ensures { SizeServed c.old size result c.new }
 {
     let a = serve::resize::pmtud_update_max_datagram_size(&mut c.words, c.values, size);
@@ -132,8 +126,7 @@ pub extern "C" fn skavvilet_pmtud_update_max_datagram_size(c: &mut Connection, s
 }
 
 // The handle of a packet that was acked, 0 for none.
-#[unsafe(no_mangle)]
-pub extern "C" fn skavvilet_next_acked_frame(c: &mut Connection, space: u64) -> TakeAnswer
+pub fn skavvilet_next_acked_frame(c: &mut Connection, space: u64) -> TakeAnswer
     ensures { TakeAckedServed c.old space result c.new }
 {
     let a = serve::take::next_acked_frame(&mut c.words, c.values, space);
@@ -142,8 +135,7 @@ pub extern "C" fn skavvilet_next_acked_frame(c: &mut Connection, space: u64) -> 
 }
 
 // The handle of a packet to be sent again, 0 for none.
-#[unsafe(no_mangle)]
-pub extern "C" fn skavvilet_next_lost_frame(c: &mut Connection, space: u64) -> TakeAnswer
+pub fn skavvilet_next_lost_frame(c: &mut Connection, space: u64) -> TakeAnswer
     ensures { TakeLostServed c.old space result c.new }
 {
     let a = serve::take::next_lost_frame(&mut c.words, c.values, space);
@@ -152,8 +144,7 @@ pub extern "C" fn skavvilet_next_lost_frame(c: &mut Connection, space: u64) -> T
 }
 
 // A ping takes a probe. The number of the refusal, or 0.
-#[unsafe(no_mangle)]
-pub extern "C" fn skavvilet_ping_sent(c: &mut Connection, space: u64) -> u64
+pub fn skavvilet_ping_sent(c: &mut Connection, space: u64) -> u64
     ensures { PingServed c.old space result c.new }
 {
     let a = serve::take::ping_sent(&mut c.words, c.values, space);
@@ -162,8 +153,7 @@ pub extern "C" fn skavvilet_ping_sent(c: &mut Connection, space: u64) -> u64
 }
 
 // What is read of a record with these values and is no field of it.
-#[unsafe(no_mangle)]
-pub extern "C" fn skavvilet_readouts(v: Values) -> Readouts
+pub fn skavvilet_readouts(v: Values) -> Readouts
     ensures { (m : List ℕ) → result ≡ readouts_of (stands_for (record_of m v)) }
 {
     serve::readouts::read(v)

@@ -42,7 +42,7 @@
 //! ```
 //!
 //! The static library is linked from `SKAVVILET_LIB_DIR`, else from the repository's
-//! `target/staticlib`; `rt staticlib host` proves it and writes it there.
+//! `target/staticlib`; `.ci/library` proves it and writes it there.
 
 mod recovery;
 mod refusal;
