@@ -1,4 +1,0 @@
-pub mod Lent
-pub mod Walk
-pub mod Outcomes
-pub mod Params
