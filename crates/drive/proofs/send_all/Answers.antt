@@ -1,0 +1,17 @@
+-- `send_all` meets its contract. The invariant: before turn i the record is that after the packets below i. The measure is the packets left.
+use Rattle.std.proofs.Common.{◌<◌, ◌≤◌, length, arith}
+use Rattle.drive.proofs.Sends.{first-turn, next-turn, last_turn}
+use Rattle.drive.proofs.send_all.Goals as goal
+
+pub loop-i-init : goal.loop-i-init
+loop-i-init c = first-turn _ _ _
+
+pub loop-i-preserved : goal.loop-i-preserved
+loop-i-preserved c =
+    let more : c.loop-i.i < length c.args.sizes.now = omega arith in
+    next-turn _ _ _ _ _ c.loop-i.invariant more _ _ _ c.size_at-size.ensures c.skavvilet_on_packet_sent.ensures
+
+pub returns : goal.returns
+returns c =
+    let none : length c.args.sizes.now ≤ c.loop-i.i = omega arith in
+    last_turn _ _ _ _ _ c.loop-i.invariant none
