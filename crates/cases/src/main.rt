@@ -1,43 +1,52 @@
 // Replays the stored traces that its arguments name, and prints for each its name and its lines. The file `stdout` has what the Rust gives for them.
 #![tactic(auto)]
 
+ghost use Rattle.std.specs.Prelude.{OnOk, take};
+ghost use Rattle.std.specs.Io.KnownBytes.{Appends};
+
+use anyhow::Context;
 use connection::fresh::Begun;
-use libc::STDOUT_FILENO;
-use playback::input::{Input, LONGEST, read_all, room};
+use playback::input::{LONGEST, read_all, room};
 use playback::line::first;
 use playback::progress::{Progress, tell};
 use playback::start::{begin, no_ranges, no_words, start_with};
 use playback::{Ranges, Replay, turn};
 use records::memory::Words;
+use std::io::Write;
+use std::rt::Files;
+use std::{env, fs, io};
 use trace::line::too_long;
 
-// The first n bytes, written; where they can't be, it is said why.
-fn put_out(bytes: &[u8], n: usize) -> bool {
-    let is_written = io::write_all(STDOUT_FILENO, first(bytes, n));
-    if !is_written {
-        os::fail(b"standard output");
-    }
-    is_written
+// The first n bytes, written.
+fn put_out<W: Write>(out: &mut W, bytes: &[u8], n: usize) -> io::Result<()>
+    ensures { OnOk result (Appends (W.contents out.old) (W.contents out.new) (take n bytes.now)) }
+{
+    out.write_all(first(bytes, n))
 }
 
 // One turn, told and written. What can't be written ends the replay.
-fn step(bytes: &[u8], m: &mut Words, ranges: &mut Ranges, out: &mut [u8], r: Replay) -> Progress {
+fn step<W: Write>(
+    out: &mut W,
+    bytes: &[u8],
+    m: &mut Words,
+    ranges: &mut Ranges,
+    line: &mut [u8],
+    r: Replay,
+) -> io::Result<Progress> {
     let at = r.at;
-    let mut p = tell(out, 0, at, turn(bytes, m, ranges, r));
-    if !put_out(out, p.filled) {
-        p.ended = true;
-    }
-    p
+    let p = tell(line, 0, at, turn(bytes, m, ranges, r));
+    put_out(out, line, p.filled)?;
+    Ok(p)
 }
 
 // The loop counts its turns down, from a number that no trace uses up.
-fn print_lines(bytes: &[u8]) {
+fn print_lines<W: Write>(out: &mut W, bytes: &[u8]) -> io::Result<()> {
     let Begun::Accepted(state) = begin() else {
-        return;
+        return Ok(());
     };
     let mut m = no_words();
     let mut ranges = no_ranges();
-    let mut out = io::buffer();
+    let mut line = [0; 4096];
     let mut p = Progress {
         ended: false,
         filled: 0,
@@ -46,56 +55,38 @@ fn print_lines(bytes: &[u8]) {
     let mut turns = u64::MAX;
     while turns > 0 && !p.ended {
         let replay = p.replay;
-        p = step(bytes, &mut m, &mut ranges, &mut out, replay);
+        p = step(out, bytes, &mut m, &mut ranges, &mut line, replay)?;
         turns = turns - 1;
     }
+    Ok(())
 }
 
 // A trace over 65,536 bytes prints only `too long`. 01 Replay and the host
-fn print_replay(bytes: &[u8]) {
+fn print_replay<W: Write>(out: &mut W, bytes: &[u8]) -> io::Result<()> {
     if bytes.len() <= LONGEST {
-        print_lines(bytes);
-        return;
+        return print_lines(out, bytes);
     }
     let line = too_long();
     let text = line.bytes;
-    put_out(&text, line.length);
+    put_out(out, &text, line.length)
 }
 
 // A trace's name on a line, and its lines.
-fn print_case(path: &[u8]) {
-    put_out(path, path.len());
-    put_out(b"\n", 1);
-    let fd = os::open_read(path);
-    if fd < 0 {
-        os::fail(path);
-        return;
-    }
+fn print_case(rt: &(impl Files + Print), path: &str) -> anyhow::Result<()> {
+    let mut out = io::writer(rt);
+    writeln!(out, "{path}").context("standard output")?;
+    let mut file = fs::open(rt, path).context(path)?;
     let mut buf = room();
-    let input = read_all(fd, &mut buf);
-    libc::close(fd);
-    let Input::Bytes(n) = input else {
-        os::fail(path);
-        return;
-    };
-    print_replay(first(&buf, n));
+    let n = read_all(&mut file, &mut buf).context(path)?;
+    print_replay(&mut out, first(&buf, n)).context("standard output")
 }
 
-fn print_argument(i: usize) {
-    let mut path = io::buffer();
-    let n = os::arg(i, &mut path);
-    if os::errno() != 0 {
-        os::fail(b"PATH");
-        return;
+// A case that fails is told on standard error, and the next one follows.
+fn main(rt: HostRuntime) -> anyhow::Result<()> {
+    for path in env::args(&rt).context("PATH")?.skip(1) {
+        if let Err(error) = print_case(&rt, path.as_str()) {
+            eprintln!(rt; "{error:#}").context("standard error")?;
+        }
     }
-    print_case(&path[..n]);
-}
-
-fn main() {
-    let count = os::arg_count();
-    let mut i = 1;
-    while i < count {
-        print_argument(i);
-        i = i + 1;
-    }
+    Ok(())
 }

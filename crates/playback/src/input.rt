@@ -1,16 +1,13 @@
 // A trace's bytes, read to the end.
-ghost use Rattle.std.specs.Prelude.{◌≡◌, replicate};
+ghost use Rattle.std.specs.Prelude.{◌≡◌, ◌<◌, IfOk, length, replicate, take};
+ghost use Rattle.std.specs.Io.KnownBytes.{Consumes, IsAtEnd};
 ghost use Rattle.playback.specs.Input.{Within};
+
+use std::io;
+use std::io::Read;
 
 // The longest trace, in bytes. 01 Replay and the host
 pub const LONGEST: usize = 65536;
-
-// How many bytes were read, or that a read failed.
-#[derive(Clone, Copy)]
-pub enum Input {
-    Bytes(usize),
-    Failed,
-}
 
 // Room for the longest trace, and for one byte more, which tells a longer one.
 pub fn room() -> [u8; 65537]
@@ -19,21 +16,19 @@ pub fn room() -> [u8; 65537]
     [0; 65537]
 }
 
-// All that is there, as far as the buffer reaches. A failed read is told apart from the end.
-pub fn read_all(fd: i32, buf: &mut [u8]) -> Input
-    ensures { Within result buf.new }
+// All that is there, as far as the buffer reaches: how many bytes were read. A failed read is told apart from the end.
+pub fn read_all<R: Read>(reader: &mut R, buf: &mut [u8]) -> io::Result<usize>
+    ensures within { Within result buf.new }
+    ensures bytes { IfOk result (λ n. Consumes (R.remaining reader.old) (R.remaining reader.new) (take n buf.new)) }
+    ensures whole { IfOk result (λ n. n < length buf.new → IsAtEnd (R.remaining reader.new)) }
 {
-    let mut n: usize = 0;
+    let mut n = 0;
     while n < buf.len() {
-        let got = libc::read(fd, &mut buf[n..]);
-        if got < 0 {
-            return Input::Failed;
-        }
-        let more = io::count(got, &buf[n..]);
+        let more = reader.read(&mut buf[n..])?;
         if more == 0 {
-            return Input::Bytes(n);
+            return Ok(n);
         }
-        n = n + more;
+        n += more;
     }
-    Input::Bytes(n)
+    Ok(n)
 }

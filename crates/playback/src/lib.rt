@@ -1,5 +1,5 @@
 // A trace replayed, a turn for each range and each event. 01 'Replay and the host'.
-// No public function has a `requires`; each claims its whole answer, but for what is read: no contract can say that.
+// No public function has a `requires`; each claims its whole answer, of a read by what the reader says that it has left.
 #![tactic(auto)]
 
 ghost use Rattle.std.specs.Prelude.{◌≡◌, ◌+◌, min, take};

@@ -2,22 +2,31 @@
 // What `fill` puts out, chunk after chunk, is proved to be the definition's lines; that they are written is the C library's.
 #![tactic(auto)]
 
-ghost use Rattle.std.specs.Prelude.{◌+◌, ◌≤◌, length};
+ghost use Rattle.std.specs.Prelude.{◌+◌, ◌≤◌, OnOk, length, take};
+ghost use Rattle.std.specs.Io.KnownBytes.{Appends};
 ghost use Rattle.playback.specs.Printed.{Sound, Shows};
 
+use anyhow::Context;
 use connection::fresh::Begun;
-use libc::{STDERR_FILENO, STDIN_FILENO, STDOUT_FILENO};
 use play::Answered;
-use playback::input::{Input, LONGEST, read_all, room};
+use playback::input::{LONGEST, read_all, room};
 use playback::line::{event_line, first, put_line};
 use playback::progress::{Progress, tell};
 use playback::start::{begin, no_ranges, no_words, start_with};
 use playback::{Met, Ranges, Replay, turn};
 use records::memory::Words;
+use std::io::{Read, Write};
+use std::rt::Files;
+use std::{env, fs, io};
 use trace::line::too_long;
 
 // The longest line, in bytes.
 const LINE: usize = 96;
+
+const USAGE: &str = "usage: replay [PATH]
+Replays a trace from PATH, or from standard input, and prints a line for each event:
+kind, refusal, window, bytes in flight, timer in nanoseconds or -
+";
 
 // The refusal's number of an accepted event. 01 The stage numbers
 const ACCEPTED: u64 = 0;
@@ -69,94 +78,68 @@ fn fill(bytes: &[u8], m: &mut Words, ranges: &mut Ranges, out: &mut [u8], r: Rep
     p
 }
 
-// The first n bytes, written; where they can't be, it is said why.
-fn put_out(bytes: &[u8], n: usize) -> bool {
-    let is_written = io::write_all(STDOUT_FILENO, first(bytes, n));
-    if !is_written {
-        os::fail(b"standard output");
-    }
-    is_written
+// The first n bytes, written.
+fn put_out<W: Write>(out: &mut W, bytes: &[u8], n: usize) -> io::Result<()>
+    ensures { OnOk result (Appends (W.contents out.old) (W.contents out.new) (take n bytes.now)) }
+{
+    out.write_all(first(bytes, n))
 }
 
 // The lines of a trace that is not too long, a chunk at a time.
-fn print_lines(bytes: &[u8]) {
+fn print_lines<W: Write>(out: &mut W, bytes: &[u8]) -> io::Result<()> {
     let Begun::Accepted(state) = begin() else {
-        return;
+        return Ok(());
     };
     let mut m = no_words();
     let mut ranges = no_ranges();
-    let mut out = io::large_buffer();
-    let mut p = fill(bytes, &mut m, &mut ranges, &mut out, start_with(state));
-    let mut is_written = put_out(&out, p.filled);
-    while is_written && !p.ended {
+    let mut chunk = [0; 65536];
+    let mut p = fill(bytes, &mut m, &mut ranges, &mut chunk, start_with(state));
+    put_out(out, &chunk, p.filled)?;
+    while !p.ended {
         let replay = p.replay;
-        p = fill(bytes, &mut m, &mut ranges, &mut out, replay);
-        is_written = put_out(&out, p.filled);
+        p = fill(bytes, &mut m, &mut ranges, &mut chunk, replay);
+        put_out(out, &chunk, p.filled)?;
     }
+    Ok(())
 }
 
 // A trace over 65,536 bytes prints only `too long`. 01 Replay and the host
-fn print_replay(bytes: &[u8]) {
+fn print_replay<W: Write>(out: &mut W, bytes: &[u8]) -> io::Result<()> {
     if bytes.len() <= LONGEST {
-        print_lines(bytes);
-        return;
+        return print_lines(out, bytes);
     }
     let line = too_long();
     let text = line.bytes;
-    put_out(&text, line.length);
+    put_out(out, &text, line.length)
 }
 
 // All is read before anything is printed, so that no output of a failed read passes for a whole one.
-fn replay_from(fd: i32, name: &[u8]) {
+fn replay_from<R: Read, W: Write>(reader: &mut R, name: &str, out: &mut W) -> anyhow::Result<()> {
     let mut buf = room();
-    let Input::Bytes(n) = read_all(fd, &mut buf) else {
-        os::fail(name);
-        return;
+    let n = read_all(reader, &mut buf).context(name)?;
+    print_replay(out, first(&buf, n)).context("standard output")
+}
+
+fn print_usage<W: Write>(out: &mut W) -> io::Result<()> {
+    out.write_all(USAGE.as_bytes())
+}
+
+fn replay_path(rt: &(impl Files + Print), path: &str) -> anyhow::Result<()> {
+    let mut out = io::writer(rt);
+    if path == "--help" {
+        return print_usage(&mut out).context("standard output");
+    }
+    let mut file = fs::open(rt, path).context(path)?;
+    replay_from(&mut file, path, &mut out)
+}
+
+fn main(rt: HostRuntime) -> anyhow::Result<()> {
+    let mut args = env::args(&rt).context("PATH")?.skip(1);
+    let Some(path) = args.next() else {
+        return replay_from(&mut rt.reader(), "standard input", &mut io::writer(&rt));
     };
-    print_replay(first(&buf, n));
-}
-
-fn print_usage(fd: i32) {
-    io::write_all(fd, b"usage: replay [PATH]\n");
-    io::write_all(
-        fd,
-        b"Replays a trace from PATH, or from standard input, and prints a line for each event:\n",
-    );
-    io::write_all(
-        fd,
-        b"kind, refusal, window, bytes in flight, timer in nanoseconds or -\n",
-    );
-}
-
-fn replay_path(path: &[u8]) {
-    if check::same(path, b"--help") {
-        print_usage(STDOUT_FILENO);
-        return;
+    if args.next().is_some() {
+        return print_usage(&mut rt.stderr()).context("standard error");
     }
-    let fd = os::open_read(path);
-    if fd < 0 {
-        os::fail(path);
-        return;
-    }
-    replay_from(fd, path);
-    libc::close(fd);
-}
-
-fn main() {
-    let count = os::arg_count();
-    if count < 2 {
-        replay_from(STDIN_FILENO, b"standard input");
-        return;
-    }
-    if 2 < count {
-        print_usage(STDERR_FILENO);
-        return;
-    }
-    let mut path = io::buffer();
-    let n = os::arg(1, &mut path);
-    if os::errno() != 0 {
-        os::fail(b"PATH");
-        return;
-    }
-    replay_path(&path[..n]);
+    replay_path(&rt, path.as_str())
 }
