@@ -1,12 +1,9 @@
 -- A turn whose line is put into a buffer that holds any. Assumes nothing.
-use mathlib.Core.Logic.{⊎_elim}
 use mathlib.Core.Path.{◌≡◌, refl, ap, sym, ◌∙◌}
 use mathlib.Core.Bool.{false}
 use mathlib.Core.List.{List, [], ◌∷◌}
 use Prim.Native.Nat.{ℕ, ◌≤◌, ◌<◌}
 use native.Mathlib.Omega.{arith}
-use denote.Enum.Declared.{tag_of}
-use types.Run.{OneOf}
 use lib.ListN.{length, take, replicate, length-replicate}
 use Rattle.model.specs.Connection.{Connection}
 use Rattle.model.specs.Trace.{printed}
@@ -17,6 +14,7 @@ use Rattle.trace.specs.declared.Found.{Found}
 use Rattle.trace.specs.declared.Found.TheVariants as found
 use Rattle.trace.proofs.Lines.{bad-length, end-length}
 use Rattle.play.specs.Answers.{answered_says}
+use Rattle.play.specs.declared.Answered.{Answered}
 use Rattle.field.proofs.Lengths.{inspected-length}
 use Rattle.playback.specs.Printed.{lines_of, is_last, Sound}
 use Rattle.playback.specs.Turns.{answer_in, Turns}
@@ -25,19 +23,18 @@ use Rattle.playback.specs.declared.Met.TheVariants as met
 use Rattle.playback.specs.declared.Replay.{Replay}
 use Rattle.playback.specs.declared.Turned.{Turned}
 use Rattle.playback.specs.declared.progress.Progress.{Progress}
-use Rattle.playback.specs.contracts.Met.{the_type}
 use Rattle.playback.proofs.Going.{turn-sound, turn-further}
 use Rattle.playback.proofs.Text.{put-size, put-take}
 use Rattle.inspect.specs.Inspected.{Inspects}
 use Rattle.inspect.proofs.Going.{line_of, turn-goes}
 
 -- but for events, the line is replay's
-pub replay-line : (x : Met) (at : ℕ) (r : Replay) (c : Connection) → OneOf (0 ∷ 1 ∷ 2 ∷ []) (tag_of the_type x) → printed (lines_of x at r c) ≡ line_of x at r c
+pub replay-line : (x : Met) (at : ℕ) (r : Replay) (c : Connection) → ((kind : ℕ) (a : Answered) → x ≡ met.Event kind a → ⊥) → printed (lines_of x at r c) ≡ line_of x at r c
 unfolding printed
 replay-line met.End at r c no-event = refl
 replay-line met.Bad at r c no-event = refl
 replay-line met.Held at r c no-event = refl
-replay-line (met.Event kind a) at r c no-event = absurd (⊎_elim (λ e. omega arith) (⊎_elim (λ e. omega arith) (λ e. omega arith)) no-event)
+replay-line (met.Event kind a) at r c no-event = absurd (no-event kind a refl)
 
 pub blank-room : (l : List ℕ) → l ≡ replicate 2048 0 → 2048 ≡ length l
 blank-room l e = sym (ap length e ∙ length-replicate {A = ℕ} 2048 0)

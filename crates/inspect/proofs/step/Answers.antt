@@ -10,14 +10,14 @@ pub returns-in_default : goal.returns-in_default
 returns-in_default c =
     let turned = c.turn-turned.result in
     let told = c.tell.ensures in
-    step-inspects _ _ _ _ _ _ _ (omega (arith, c.shared_slice_known-1.given c.args.r.at)) (omega arith) c.requires.0 c.turn-turned.ensures _ _ _ c.requires.1
-    (λ m. put_same (replay-line turned.met c.args.r.at turned.replay (connection_of m turned.replay.state) c.in_default.keys2) (told.put m))
+    step-inspects _ _ _ _ _ _ _ (omega (arith, c.type_inv.bytes c.args.r.at)) (omega arith) c.requires.0 c.turn-turned.ensures _ _ _ c.requires.1
+    (λ m. put_same (replay-line turned.met c.args.r.at turned.replay (connection_of m turned.replay.state) c.in_default.not-Event) (told.put m))
     told.ended
     told.replay
 
 pub returns : goal.returns
 returns c =
-    step-inspects _ _ _ _ _ _ _ (omega (arith, c.shared_slice_known-1.given c.args.r.at)) (omega arith) c.requires.0 c.turn-turned.ensures _ _ _ c.requires.1
+    step-inspects _ _ _ _ _ _ _ (omega (arith, c.type_inv.bytes c.args.r.at)) (omega arith) c.requires.0 c.turn-turned.ensures _ _ _ c.requires.1
     (λ m. rw c.in-Event.is (c.put_inspected.ensures m))
     (rw c.in-Event.is)
     refl
