@@ -12,11 +12,8 @@ use Rattle.model.specs.declared.Time.TheVariants.{At}
 use Rattle.congestion.specs.declared.Moved.{Moved}
 use Rattle.congestion.specs.declared.Moved.TheVariants.{Accepted, Refused}
 use Rattle.congestion.specs.declared.growth.Estimate.{Estimate}
-use Rattle.congestion.specs.declared.growth.Estimate.TheVariants as Estimate
 use Rattle.congestion.specs.declared.growth.Few.{Few}
-use Rattle.congestion.specs.declared.growth.Few.TheVariants as Few
 use Rattle.congestion.specs.declared.growth.Stepped.{Stepped}
-use Rattle.congestion.specs.declared.growth.Stepped.TheVariants as Stepped
 
 -- the controller after a move, or the refusal
 abbrev pub moved_says : Moved → Result Congestion

@@ -9,14 +9,10 @@ use Rattle.model.specs.declared.Settings.{Settings}
 use Rattle.connection.specs.View.{Does}
 use Rattle.connection.specs.Answers.{outcome_says, taken_says, timed_says, begun_says, Begins}
 use Rattle.connection.specs.declared.Outcome.{Outcome}
-use Rattle.connection.specs.declared.Outcome.TheVariants as Outcome
 use Rattle.connection.specs.declared.State.{State}
 use Rattle.connection.specs.declared.Taken.{Taken}
-use Rattle.connection.specs.declared.Taken.TheVariants as Taken
 use Rattle.connection.specs.declared.fresh.Begun.{Begun}
-use Rattle.connection.specs.declared.fresh.Begun.TheVariants as Begun
 use Rattle.connection.specs.declared.parts.Timing.{Timing}
-use Rattle.connection.specs.declared.parts.Timing.TheVariants as Timing
 
 -- the answer, the lent words and the state after an event
 pub record Same {A : Type 0} (o o' : Result A) (m m' : List ℕ) (s s' : State) : Type 0 where

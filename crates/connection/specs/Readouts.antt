@@ -9,7 +9,6 @@ use Rattle.model.specs.declared.Number.{Number}
 use Rattle.model.specs.declared.Rtt.{Rtt}
 use Rattle.model.specs.declared.Time.{Time}
 use Rattle.connection.specs.declared.readout.Sampled.{Sampled}
-use Rattle.connection.specs.declared.readout.Sampled.TheVariants as Sampled
 
 -- ---- the window
 

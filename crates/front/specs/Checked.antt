@@ -9,7 +9,6 @@ use Rattle.model.specs.Ranges.{are_ranges, hold_skipped, is_skipped}
 use Rattle.model.specs.declared.Number.{Number}
 use Rattle.model.specs.declared.Refusal.TheVariants.{Clock, Domain, Ranges, Skipped}
 use Rattle.front.specs.declared.ack.Checked.{Checked}
-use Rattle.front.specs.declared.ack.Checked.TheVariants as Checked
 
 abbrev pub checked_says : Checked → Result Span
 checked_says (Checked.Fine d) = accepted d

@@ -1,10 +1,10 @@
 -- A turn whose line is put into a buffer that holds any. Assumes nothing.
 use mathlib.Core.Path.{◌≡◌, refl, ap, sym, ◌∙◌}
 use mathlib.Core.Bool.{false}
-use mathlib.Core.List.{List, [], ◌∷◌}
+use mathlib.Core.List.{List}
 use Prim.Native.Nat.{ℕ, ◌≤◌, ◌<◌}
 use native.Mathlib.Omega.{arith}
-use lib.ListN.{length, take, replicate, length-replicate}
+use lib.ListN.{length, replicate, length-replicate}
 use Rattle.model.specs.Connection.{Connection}
 use Rattle.model.specs.Trace.{printed}
 use Rattle.connection.specs.View.{connection_of}

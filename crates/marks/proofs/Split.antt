@@ -1,23 +1,22 @@
 -- Model's folds over records, split: the survey has the sums and the refusal, the marks and the handles need neither. Assumes nothing.
-use mathlib.Core.Path.{◌≡◌, refl, ap, sym, ◌∙◌}
+use mathlib.Core.Path.{◌≡◌, refl, ap, ◌∙◌}
 use mathlib.Core.Bool.{Bool, true, false, cond, ◌||◌, ◌&&◌, not}
 use mathlib.Core.List.{List, [], ◌∷◌, ◌++◌, append-nil, append_assoc}
-use Prim.Native.Nat.{ℕ, zero, suc, ◌+◌, ◌-◌}
-use native.Mathlib.Omega.{arith}
+use Prim.Native.Nat.{ℕ, ◌+◌, ◌-◌}
 use lib.Dec.{eqb, ltb}
-use lib.ListN.{length, length-append, take}
+use lib.ListN.{length, length-append}
 use Rattle.arith.specs.Whole.{sum_of}
 use Rattle.arith.specs.declared.time.Sum.{Sum}
 use Rattle.arith.specs.declared.time.Sum.TheVariants.{Fine, Over}
 use Rattle.model.specs.Numbers.{Result, accepted, refused, then, reach, capacity, is_unset}
-use Rattle.model.specs.Sent.{standing, marked, queued}
-use Rattle.model.specs.Ack.{Met, Acked, meet_lost, meet_standing, newly_met, meet_by, keep_acked, meet_all}
-use Rattle.model.specs.declared.Refusal.TheVariants.{Full, TooLarge}
+use Rattle.model.specs.Sent.{marked}
+use Rattle.model.specs.Ack.{Met, Acked, meet_lost, newly_met, meet_by, keep_acked, meet_all}
+use Rattle.model.specs.declared.Refusal.TheVariants.{Full}
 use Rattle.model.specs.declared.Sent.{Sent}
 use Rattle.model.specs.declared.Time.{Time}
 use Rattle.model.specs.declared.Time.TheVariants.{Unset, At}
 use Rattle.marks.specs.Marks.{newly_of, acked_all, handles_of}
-use Rattle.marks.specs.Survey.{weigh_by, weighed, weigh_standing, bytes_weighed, sum_weighed, on_fits, survey}
+use Rattle.marks.specs.Survey.{weigh_by, weighed, bytes_weighed, sum_weighed, on_fits, survey}
 use Rattle.marks.specs.declared.Tally.{Tally}
 use Rattle.marks.specs.declared.Surveyed.{Surveyed}
 use Rattle.marks.specs.declared.Surveyed.TheVariants as S

@@ -1,8 +1,8 @@
 -- Model's loss detection, split: `seek` has the sums and the refusal, the marks and the handles need neither. Assumes nothing.
-use mathlib.Core.Path.{◌≡◌, refl, ap, sym, ◌∙◌}
+use mathlib.Core.Path.{◌≡◌, refl, ap, ◌∙◌}
 use mathlib.Core.Bool.{Bool, true, false, cond}
 use mathlib.Core.List.{List, [], ◌∷◌, ◌++◌, append-nil, append_assoc}
-use Prim.Native.Nat.{ℕ, zero, suc, ◌+◌, ◌-◌, ◌≤◌}
+use Prim.Native.Nat.{ℕ, suc, ◌+◌, ◌-◌, ◌≤◌}
 use native.Mathlib.Omega.{arith}
 use lib.Dec.{eqb, ltb}
 use lib.ListN.{length, length-append, take}
@@ -18,12 +18,11 @@ use Rattle.model.specs.Sent.{standing, marked}
 use Rattle.model.specs.Loss.{Lost, is_lost, lose_probe, lose_packet, lose, keep_detected, detect_by, detect}
 use Rattle.model.specs.Loss as loss
 use Rattle.model.specs.declared.Judge.{Judge}
-use Rattle.model.specs.declared.Refusal.TheVariants.{Full, TooLarge}
+use Rattle.model.specs.declared.Refusal.TheVariants.{Full}
 use Rattle.model.specs.declared.Sent.{Sent}
-use Rattle.model.specs.declared.Time.{Time}
-use Rattle.model.specs.declared.Time.TheVariants.{Unset, At}
+use Rattle.model.specs.declared.Time.TheVariants.{At}
 use Rattle.marks.specs.Marks.{standing_of, lost_all, handles_of}
-use Rattle.marks.specs.Survey.{lost_tally, probe_weighed, packet_weighed, weigh_kind, loss_weighed, stop, survives, on_weighed, seek_by, seek}
+use Rattle.marks.specs.Survey.{lost_tally, probe_weighed, packet_weighed, weigh_kind, loss_weighed, survives, on_weighed, seek_by, seek}
 use Rattle.marks.specs.declared.LostTally.{LostTally}
 use Rattle.marks.specs.declared.LossWeighed.{LossWeighed}
 use Rattle.marks.specs.declared.LossWeighed.TheVariants as L

@@ -1,12 +1,11 @@
 -- The records of a space as an event is about to leave them, told from the words as they are. Definitions only.
 -- Places count from the front: place i is slot head + i. `fs` are the flags of the records that the ranges hold, 1 for each.
-use Rattle.std.specs.Prelude.{ℕ, zero, suc, ◌+◌, ◌-◌, ◌*◌, ◌/◌, ◌%◌, Bool, true, false, cond, ◌&&◌, not, List, [], ◌∷◌, ◌++◌, eqb, ltb, get_or}
+use Rattle.std.specs.Prelude.{ℕ, zero, suc, ◌+◌, ◌*◌, ◌/◌, Bool, true, false, cond, ◌&&◌, List, [], ◌∷◌, eqb, ltb, get_or}
 use Rattle.arith.specs.declared.time.Moment.{Moment}
-use Rattle.model.specs.Numbers.{is_unset}
 use Rattle.model.specs.Sent.{standing, marked}
 use Rattle.model.specs.declared.Sent.{Sent}
 use Rattle.model.specs.declared.Time.TheVariants.{At}
-use Rattle.records.specs.View.{at, record_by, record_at, ring}
+use Rattle.records.specs.View.{at, record_by, record_at}
 
 -- whether a range holds the record at place i
 abbrev pub flagged : List ℕ → ℕ → Bool

@@ -1,6 +1,6 @@
 -- Step 1 of an acknowledgement and a loss detection, over a list of records, as sums alone: no mark is set and no handle stored. Definitions only.
 -- proofs/Split.antt shows that these sums, with the marks and handles of Marks.antt, are model's `meet_all` and `detect`.
-use Rattle.std.specs.Prelude.{ℕ, ◌+◌, ◌-◌, Bool, true, false, cond, ◌||◌, List, [], ◌∷◌, ◌++◌, eqb, ltb}
+use Rattle.std.specs.Prelude.{ℕ, ◌+◌, ◌-◌, Bool, true, false, cond, ◌||◌, List, [], ◌∷◌, eqb, ltb}
 use Rattle.arith.specs.Whole.{sum_of}
 use Rattle.arith.specs.Time.{later_of}
 use Rattle.arith.specs.declared.time.MomentSum.{MomentSum}
@@ -12,7 +12,6 @@ use Rattle.model.specs.Sent.{standing}
 use Rattle.model.specs.Ack.{distance_by}
 use Rattle.model.specs.Loss.{is_lost}
 use Rattle.model.specs.declared.Judge.{Judge}
-use Rattle.model.specs.declared.Number.{Number}
 use Rattle.model.specs.declared.Refusal.TheVariants.{Full, TooLarge}
 use Rattle.model.specs.declared.Sent.{Sent}
 use Rattle.model.specs.declared.Time.{Time}
@@ -21,7 +20,6 @@ use Rattle.marks.specs.declared.Tally.{Tally}
 use Rattle.marks.specs.declared.Surveyed.{Surveyed}
 use Rattle.marks.specs.declared.Surveyed.TheVariants as S
 use Rattle.marks.specs.declared.LostTally.{LostTally}
-use Rattle.marks.specs.declared.Stop.{Stop}
 use Rattle.marks.specs.declared.LossWeighed.{LossWeighed}
 use Rattle.marks.specs.declared.LossWeighed.TheVariants as L
 use Rattle.marks.specs.declared.Detected.{Detected}

@@ -31,7 +31,7 @@ use Rattle.model.specs.declared.Sent.{Sent}
 use Rattle.model.specs.declared.Shared.{Shared}
 use Rattle.model.specs.declared.Time.{Time}
 use Rattle.model.proofs.Peel.{All, all-is, all_then, all-must, all-reach}
-use Rattle.model.proofs.Counts.{Gathers, meets, finds}
+use Rattle.model.proofs.Counts.{Gathers, meets}
 use Rattle.model.proofs.Remains.{Remains, remains-acked, remains-drained, remains-fallen, drained-twice, with-here, with-else, ended, all_tested}
 use Rattle.model.proofs.Detecting.{Found, found, detected, judge_by}
 

@@ -9,7 +9,7 @@ use Rattle.arith.specs.Whole.{within, sum_of, times_of}
 use Rattle.arith.specs.Time.{span}
 use Rattle.arith.specs.declared.time.Moment.{Moment}
 use Rattle.arith.specs.declared.time.Span.{Span}
-use Rattle.model.specs.Numbers.{Result, accepted, refused, then, must, reach, on_clock, is_space, is_datagram_size, capacity}
+use Rattle.model.specs.Numbers.{Result, accepted, refused, then, on_clock, is_space, is_datagram_size, capacity}
 use Rattle.model.specs.Control.{Move, resize, moved, control, forgive_by, ack_each}
 use Rattle.model.specs.Connection.{outstanding, Space, Connection, space_at, with_space, with_shared, with_timer, facts_of, timed}
 use Rattle.model.specs.Timer.{timer_of}

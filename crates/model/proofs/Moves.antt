@@ -4,7 +4,7 @@ use mathlib.Core.Bool.{Bool, true, false, cond, ◌&&◌, not}
 use Prim.Native.Nat.{ℕ, ◌+◌, ◌-◌, ◌*◌, ◌/◌, ◌≤◌, ◌<◌, ◌^◌, max}
 use native.Mathlib.Omega.{arith}
 use lib.Dec.{T, leb, ltb, eqb, eqb→eq}
-use borrow.Author.Tests.{ltb-true, ltb-false}
+use borrow.Author.Tests.{ltb-true}
 use lib.Ieee.{Float, lt}
 use Rattle.arith.specs.Whole.{limit, within, sum_of, times_of}
 use Rattle.arith.specs.declared.time.Sum.{Sum}
@@ -13,7 +13,7 @@ use Rattle.arith.specs.Time.{since_of, span_sum_of}
 use Rattle.arith.specs.Round.{float_of, truncated_of, seconds_of}
 use Rattle.arith.specs.declared.time.Moment.{Moment}
 use Rattle.arith.specs.declared.time.Span.{Span}
-use Rattle.model.specs.Numbers.{Result, accepted, refused, then, reach, reach_span, reach_window, is_unset}
+use Rattle.model.specs.Numbers.{Result, accepted, then, reach, reach_window, is_unset}
 use Rattle.model.specs.Cubic.{alpha_aimd, times_beta, w_max_next, k_next, curve, in_recovery, checkpoint, rolls_back, rolled_back, rollback, reduce, congestion_event, count_lost, grown, by_datagram, slow_start, start_of, begun, target_of, estimated, aimed_at, avoidance, few_lost, grow, acked_outside, packet_acked, resized}
 use Rattle.model.specs.Control.{Move, forgive, lose, count, ack, resize, moved}
 use Rattle.model.specs.History.{opens, few, asks, succeeds, keeps_size}

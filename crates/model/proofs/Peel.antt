@@ -1,7 +1,7 @@
 -- What holds of every value that a chain of rules accepts, from what holds of the last rule's. Assumes nothing.
 use mathlib.Core.Path.{◌≡◌, refl, sym, subst}
 use mathlib.Core.Bool.{Bool, true, false, cond}
-use Prim.Native.Nat.{ℕ, ◌+◌, ◌≤◌, ◌^◌}
+use Prim.Native.Nat.{ℕ, ◌≤◌, ◌^◌}
 use native.Mathlib.Omega.{arith}
 use lib.Dec.{T, leb, leb→le}
 use Rattle.arith.specs.declared.time.Moment.{Moment}

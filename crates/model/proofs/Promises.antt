@@ -3,14 +3,14 @@ use mathlib.Core.Path.{◌≡◌, refl, ap, sym, ◌∙◌, subst}
 use mathlib.Core.Bool.{Bool, true, false, cond, ◌&&◌, ◌||◌, not}
 use mathlib.Core.List.{List, [], ◌∷◌, ◌++◌}
 use mathlib.Core.Logic.{◌⊎◌, ⊎_elim, inl, inr}
-use Prim.Native.Nat.{ℕ, ◌+◌, ◌*◌, ◌^◌, ◌≤◌, ◌<◌}
+use Prim.Native.Nat.{ℕ, ◌*◌, ◌^◌, ◌≤◌, ◌<◌}
 use native.Mathlib.Omega.{arith}
 use lib.Dec.{T, leb, leb→le}
 use borrow.Author.Tests.{lt-ltb}
 use native.Mathlib.Nat.{mul-le-mul_left, le_trans}
 use Rattle.arith.specs.declared.time.Moment.{Moment}
 use Rattle.arith.specs.declared.time.Span.{Span}
-use Rattle.model.specs.Numbers.{Result, accepted, refused, then, must, is_datagram_size, are_settings}
+use Rattle.model.specs.Numbers.{Result, accepted, refused, must, is_datagram_size, are_settings}
 use Rattle.model.specs.Cubic.{checkpoint, rolls_back, rolled_back, rollback, grow, congestion_fresh}
 use Rattle.model.specs.Control.{Move, forgive, ack, moved, control}
 use Rattle.model.specs.Connection.{Connection, fresh, space_fresh, shared_fresh}

@@ -1,8 +1,8 @@
 -- 01 'Acknowledgement (000)' 1 and 3: what becomes of the records in the ranges, and the reordering that is borne from then on. Definitions only.
-use Rattle.std.specs.Prelude.{ℕ, ◌+◌, ◌-◌, min, max, Bool, true, false, cond, ◌||◌, List, [], ◌∷◌, ◌++◌, eqb}
+use Rattle.std.specs.Prelude.{ℕ, ◌+◌, ◌-◌, min, max, Bool, true, false, cond, ◌||◌, List, [], ◌∷◌, ◌++◌}
 use Rattle.arith.specs.Whole.{sum_of}
 use Rattle.arith.specs.declared.round.TimeThreshold.TheVariants.{FiveFourths}
-use Rattle.model.specs.Numbers.{Result, accepted, refused, then, reach}
+use Rattle.model.specs.Numbers.{Result, accepted, then, reach}
 use Rattle.model.specs.Sent.{marked, queued}
 use Rattle.model.specs.declared.Number.{Number}
 use Rattle.model.specs.declared.Number.TheVariants.{Missing, Is}

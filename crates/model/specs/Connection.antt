@@ -1,9 +1,9 @@
 -- A connection: three spaces and what they share. 01 'The sender's part'. Definitions only.
-use Rattle.std.specs.Prelude.{ℕ, ◌+◌, ◌-◌, Bool, true, false, cond, ◌&&◌, List, [], ◌∷◌, eqb}
+use Rattle.std.specs.Prelude.{ℕ, ◌+◌, cond, ◌&&◌, List, [], ◌∷◌, eqb}
 use Rattle.arith.specs.Time.{moment}
 use Rattle.arith.specs.declared.round.TimeThreshold.TheVariants.{NineEighths}
 use Rattle.arith.specs.declared.time.Moment.{Moment}
-use Rattle.model.specs.Numbers.{Result, accepted, refused, then, must, are_settings}
+use Rattle.model.specs.Numbers.{Result, accepted, then, must, are_settings}
 use Rattle.model.specs.Rtt.{rtt_fresh}
 use Rattle.model.specs.Sent.{standing}
 use Rattle.model.specs.Timer.{timer_of}
@@ -16,7 +16,7 @@ use Rattle.model.specs.declared.Sent.{Sent}
 use Rattle.model.specs.declared.Settings.{Settings}
 use Rattle.model.specs.declared.Shared.{Shared}
 use Rattle.model.specs.declared.Time.{Time}
-use Rattle.model.specs.declared.Time.TheVariants.{Unset, At}
+use Rattle.model.specs.declared.Time.TheVariants.{Unset}
 use Rattle.model.specs.declared.TimerFacts.{TimerFacts}
 
 pub record Space : Type 0 where

@@ -1,5 +1,5 @@
 -- 01 'CUBIC (001)'; RFC 9438. 64-bit floats: each operation rounds once, in the order written. Definitions only.
-use Rattle.std.specs.Prelude.{ℕ, ◌+◌, ◌-◌, ◌*◌, ◌/◌, max, Bool, true, false, cond, ◌&&◌, not, leb, ltb, eqb, Float}
+use Rattle.std.specs.Prelude.{ℕ, ◌+◌, ◌-◌, ◌*◌, ◌/◌, max, Bool, false, cond, ◌&&◌, not, leb, ltb, eqb, Float}
 use Rattle.std.specs.Float.{binary64}
 use Rattle.std.specs.Float.Ieee.{add, sub, mul, div, of_bits, lt, le}
 use Rattle.arith.specs.Whole.{sum_of, times_of, limit}
@@ -8,7 +8,6 @@ use Rattle.arith.specs.Round.{float_of, truncated_of, seconds_of}
 use Rattle.arith.specs.Root.{nought}
 use Rattle.arith.specs.RootOf.{root_of}
 use Rattle.arith.specs.declared.root.Root.{Root}
-use Rattle.arith.specs.declared.root.Root.TheVariants as Root
 use Rattle.arith.specs.declared.time.Moment.{Moment}
 use Rattle.arith.specs.declared.time.Span.{Span}
 use Rattle.model.specs.Numbers.{Result, accepted, refused, then, reach, reach_span, reach_window, is_unset}

@@ -1,12 +1,11 @@
 -- 01 'Lost or not'; RFC 9002 section 6.1. Definitions only.
-use Rattle.std.specs.Prelude.{ℕ, ◌+◌, ◌-◌, Bool, true, false, cond, ◌||◌, List, [], ◌∷◌, ◌++◌, leb, ltb}
+use Rattle.std.specs.Prelude.{ℕ, ◌+◌, ◌-◌, Bool, true, false, cond, ◌||◌, List, [], ◌∷◌, leb, ltb}
 use Rattle.arith.specs.Whole.{sum_of}
 use Rattle.arith.specs.Time.{longer_of, later_of, passed_by}
 use Rattle.arith.specs.Round.{product_of}
 use Rattle.arith.specs.declared.round.TimeThreshold.{TimeThreshold}
-use Rattle.arith.specs.declared.time.Moment.{Moment}
 use Rattle.arith.specs.declared.time.Span.{Span}
-use Rattle.model.specs.Numbers.{Result, accepted, refused, then, reach, reach_span, reach_moment, granularity}
+use Rattle.model.specs.Numbers.{Result, accepted, then, reach, reach_span, reach_moment, granularity}
 use Rattle.model.specs.Sent.{marked, standing, queued}
 use Rattle.model.specs.declared.Rtt.{Rtt}
 use Rattle.model.specs.declared.Sent.{Sent}

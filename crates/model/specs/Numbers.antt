@@ -1,5 +1,5 @@
 -- 01 'The stage numbers': the ranges of numbers, the refusals, and what a refusal does to a chain of rules. Definitions only.
-use Rattle.std.specs.Prelude.{ℕ, ◌+◌, ◌*◌, ◌^◌, Bool, true, false, cond, ◌&&◌, leb, ltb}
+use Rattle.std.specs.Prelude.{ℕ, ◌^◌, Bool, true, false, cond, ◌&&◌, leb, ltb}
 use Rattle.arith.specs.Whole.{limit}
 use Rattle.arith.specs.Time.{span}
 use Rattle.arith.specs.declared.time.Moment.{Moment}

@@ -1,14 +1,14 @@
 -- The third demand: what a rollback restores. For every setting, every fresh connection and every list of calls, refused ones included. Definitions only.
 -- proofs/Promises.antt proves it.
-use Rattle.std.specs.Prelude.{◌≡◌, Bool, true, false, List, [], ◌∷◌, ◌++◌, ℕ, ◌≤◌, T}
+use Rattle.std.specs.Prelude.{◌≡◌, Bool, true, false, List, ◌∷◌, ◌++◌, ℕ, ◌≤◌, T}
 use Rattle.arith.specs.declared.time.Moment.{Moment}
 use Rattle.arith.specs.declared.time.Span.{Span}
-use Rattle.model.specs.Numbers.{Result, accepted}
-use Rattle.model.specs.Control.{Move, forgive, ack, control}
+use Rattle.model.specs.Numbers.{accepted}
+use Rattle.model.specs.Control.{forgive, ack, control}
 use Rattle.model.specs.Cubic.{grow}
-use Rattle.model.specs.Connection.{Connection, fresh}
+use Rattle.model.specs.Connection.{Connection}
 use Rattle.model.specs.Run.{Event, run}
-use Rattle.model.specs.History.{Seen, seen, Entry, history, moves_of, opens, asks, succeeds, keeps_size, Kept, never, as', latest, begins, size_kept}
+use Rattle.model.specs.History.{seen, Entry, history, moves_of, opens, asks, succeeds, keeps_size, never, as', latest, begins, size_kept}
 use Rattle.model.specs.declared.Settings.{Settings}
 
 pub record Promises (s : Settings) (c : Connection) (calls : List Event) : Type 0 where

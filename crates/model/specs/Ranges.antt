@@ -1,5 +1,5 @@
 -- 01's table, refusals 4 and 5; 'Acknowledgement (000)': ranges are half-open, ascending. A list of words: start, end, start, end, ... Definitions only.
-use Rattle.std.specs.Prelude.{ℕ, ◌+◌, ◌-◌, ◌^◌, max, Bool, true, false, cond, ◌&&◌, ◌||◌, List, [], ◌∷◌, leb, ltb, length}
+use Rattle.std.specs.Prelude.{ℕ, ◌+◌, ◌-◌, ◌^◌, max, Bool, true, false, ◌&&◌, ◌||◌, List, [], ◌∷◌, leb, ltb, length}
 use Rattle.model.specs.Numbers.{is_number, or_zero}
 use Rattle.model.specs.declared.Number.{Number}
 use Rattle.model.specs.declared.Number.TheVariants.{Missing, Is}

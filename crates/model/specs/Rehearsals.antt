@@ -1,5 +1,5 @@
 -- 01 'Rehearsals': every row marked P, as rows of a single table under one claim about the definitions. Times in nanoseconds.
-use Rattle.std.specs.Prelude.{ℕ, ◌+◌, ◌-◌, ◌*◌, ◌^◌, Bool, true, false, cond, ◌&&◌, not, List, [], ◌∷◌, ◌++◌, replicate, T, eqb, leb, ltb, Float}
+use Rattle.std.specs.Prelude.{ℕ, ◌+◌, ◌*◌, Bool, true, false, cond, ◌&&◌, not, List, [], ◌∷◌, ◌++◌, replicate, T, eqb}
 use Rattle.model.specs.Trace.{replay, printed}
 use Rattle.std.specs.Float.{binary64}
 use Rattle.std.specs.Float.Ieee.{to_bits, of_bits, add, sub, mul, div, of_int, to_unsigned, lt, le, eq}
@@ -8,9 +8,7 @@ use Rattle.arith.specs.Time.{span, moment, span_sum_of, scaled_of, later_of}
 use Rattle.arith.specs.Round.{float_of, nearest, product_of, seconds_of}
 use Rattle.arith.specs.RootOf.{root_of}
 use Rattle.arith.specs.declared.root.Root.{Root}
-use Rattle.arith.specs.declared.root.Root.TheVariants as Root
 use Rattle.arith.specs.declared.round.TimeThreshold.TheVariants.{NineEighths}
-use Rattle.arith.specs.declared.time.Moment.{Moment}
 use Rattle.arith.specs.declared.time.Span.{Span}
 use Rattle.model.specs.Numbers.{Result, accepted, refused, then, on_clock, is_size, are_settings}
 use Rattle.model.specs.Rtt.{rtt_fresh, rtt_update}

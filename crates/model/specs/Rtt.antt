@@ -1,9 +1,9 @@
 -- 01 'RTT (002)'; RFC 9002 section 5. Definitions only.
-use Rattle.std.specs.Prelude.{ℕ, ◌+◌, ◌-◌, ◌*◌, ◌/◌, max, min, Bool, true, false, cond, leb}
+use Rattle.std.specs.Prelude.{ℕ, ◌-◌, ◌/◌, Bool, true, false, cond, leb}
 use Rattle.arith.specs.Whole.{sum_of, times_of, gap_of}
 use Rattle.arith.specs.Time.{span, span_sum_of, longer_of, shorter_of}
 use Rattle.arith.specs.declared.time.Span.{Span}
-use Rattle.model.specs.Numbers.{Result, accepted, refused, reach, reach_span}
+use Rattle.model.specs.Numbers.{Result, accepted, reach, reach_span}
 use Rattle.model.specs.declared.Rtt.{Rtt}
 use Rattle.model.specs.declared.Settings.{Settings}
 

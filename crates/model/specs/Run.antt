@@ -1,7 +1,7 @@
 -- The events of the trace as values, and any list of them from a connection on. 01 'The sender's part', 'Replay and the host'. Definitions only.
 use Rattle.std.specs.Prelude.{ℕ, Bool, List, [], ◌∷◌}
 use Rattle.arith.specs.declared.time.Moment.{Moment}
-use Rattle.model.specs.Numbers.{Result, accepted, refused, then, number_of}
+use Rattle.model.specs.Numbers.{Result, accepted, refused, number_of}
 use Rattle.model.specs.Connection.{Connection}
 use Rattle.model.specs.Events.{Step, on_packet_sent, on_ack_received, on_loss_detection_timeout, on_space_discarded, on_size_change, next_acked_frame, next_lost_frame, ping_sent}
 use Rattle.model.specs.declared.HandshakeStatus.{HandshakeStatus}

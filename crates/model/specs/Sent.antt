@@ -1,9 +1,9 @@
 -- The records of a space, oldest first, and its queues. 01 'Acknowledgement (000)' 1 and 2. Definitions only.
-use Rattle.std.specs.Prelude.{ℕ, zero, suc, ◌+◌, ◌-◌, ◌/◌, Bool, true, false, cond, ◌&&◌, not, List, [], ◌∷◌, ◌++◌, leb, ltb, eqb, length, drop, replicate}
+use Rattle.std.specs.Prelude.{ℕ, zero, suc, ◌+◌, ◌-◌, ◌/◌, Bool, true, false, cond, ◌&&◌, not, List, [], ◌∷◌, ◌++◌, ltb, eqb, length, drop, replicate}
 use Rattle.arith.specs.Time.{passed_by}
 use Rattle.arith.specs.declared.time.Moment.{Moment}
 use Rattle.arith.specs.declared.time.Span.{Span}
-use Rattle.model.specs.Numbers.{Result, accepted, refused, capacity, is_unset}
+use Rattle.model.specs.Numbers.{Result, refused, capacity, is_unset}
 use Rattle.model.specs.declared.Packet.{Packet}
 use Rattle.model.specs.declared.Refusal.TheVariants.{Full}
 use Rattle.model.specs.declared.Sent.{Sent}

@@ -1,9 +1,8 @@
 -- 01 'Timer and PTO (000)'; RFC 9002 section 6.2. Definitions only.
-use Rattle.std.specs.Prelude.{ℕ, ◌+◌, ◌-◌, ◌^◌, min, Bool, true, false, cond, ◌&&◌, ◌||◌, not, List, [], ◌∷◌, ◌++◌, ltb, leb, eqb}
+use Rattle.std.specs.Prelude.{ℕ, ◌-◌, ◌^◌, min, Bool, true, false, cond, ◌&&◌, ◌||◌, not, List, [], ◌∷◌, ltb, leb, eqb}
 use Rattle.arith.specs.Time.{span_sum_of, scaled_of, later_of, longer_of}
-use Rattle.arith.specs.declared.time.Moment.{Moment}
 use Rattle.arith.specs.declared.time.Span.{Span}
-use Rattle.model.specs.Numbers.{Result, accepted, refused, then, reach_span, reach_moment, granularity, is_unset}
+use Rattle.model.specs.Numbers.{Result, accepted, then, reach_span, reach_moment, granularity, is_unset}
 use Rattle.model.specs.Sent.{standing, queued}
 use Rattle.model.specs.declared.Epoch.{Epoch}
 use Rattle.model.specs.declared.HandshakeStatus.{HandshakeStatus}

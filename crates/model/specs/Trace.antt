@@ -8,7 +8,6 @@ use Rattle.model.specs.Run.{Event, sent, acked, timeout, discarded, size_change,
 use Rattle.model.specs.declared.HandshakeStatus.{HandshakeStatus}
 use Rattle.model.specs.declared.Number.{Number}
 use Rattle.model.specs.declared.Number.TheVariants.{Missing, Is}
-use Rattle.model.specs.declared.Packet.{Packet}
 use Rattle.model.specs.declared.Time.{Time}
 use Rattle.model.specs.declared.Time.TheVariants.{Unset, At}
 

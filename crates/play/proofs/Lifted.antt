@@ -9,16 +9,12 @@ use Rattle.model.specs.Run as run
 use Rattle.connection.specs.Answers.{outcome_says, taken_says}
 use Rattle.connection.specs.View.{Does}
 use Rattle.connection.specs.declared.Outcome.{Outcome}
-use Rattle.connection.specs.declared.Outcome.TheVariants as Outcome
 use Rattle.connection.specs.declared.State.{State}
 use Rattle.connection.specs.declared.Taken.{Taken}
-use Rattle.connection.specs.declared.Taken.TheVariants as Taken
 use Rattle.timeout.specs.Says.{timeout_says}
 use Rattle.timeout.specs.declared.TimeoutOutcome.{TimeoutOutcome}
-use Rattle.timeout.specs.declared.TimeoutOutcome.TheVariants as TimeoutOutcome
 use Rattle.tracker.specs.Event.{ack_says}
 use Rattle.tracker.specs.declared.ack.AckOutcome.{AckOutcome}
-use Rattle.tracker.specs.declared.ack.AckOutcome.TheVariants as AckOutcome
 use Rattle.play.specs.Answers.{answered_says, mapped, done_of, taken_of, acked_of, timed_out_of}
 
 module _ {A : Type 0} (f : A → run.Answer) {m m' : List ℕ} {s s' : State} {place : Connection → State} {words : Connection → List ℕ} where

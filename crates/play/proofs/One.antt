@@ -6,12 +6,11 @@ use Rattle.model.specs.Connection.{Connection}
 use Rattle.model.specs.Events.{Step}
 use Rattle.model.specs.Numbers.{Result, accepted, refused}
 use Rattle.model.specs.Run as run
-use Rattle.connection.proofs.One.{Same, one-result}
+use Rattle.connection.proofs.One.{one-result}
 use Rattle.connection.specs.View.{Does}
 use Rattle.connection.specs.declared.State.{State}
 use Rattle.play.specs.Answers.{answered_says}
 use Rattle.play.specs.declared.Answered.{Answered}
-use Rattle.play.specs.declared.Answered.TheVariants as Answered
 use Rattle.play.specs.declared.Played.{Played}
 
 -- an answer is given in one way

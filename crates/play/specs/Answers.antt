@@ -4,18 +4,13 @@ use Rattle.model.specs.Numbers.{Result, accepted, refused}
 use Rattle.model.specs.Run as run
 use Rattle.connection.specs.declared.Answer.{Answer}
 use Rattle.connection.specs.declared.Outcome.{Outcome}
-use Rattle.connection.specs.declared.Outcome.TheVariants as Outcome
 use Rattle.connection.specs.declared.Taken.{Taken}
-use Rattle.connection.specs.declared.Taken.TheVariants as Taken
 use Rattle.connection.specs.declared.Taking.{Taking}
 use Rattle.timeout.specs.declared.TimeoutOutcome.{TimeoutOutcome}
-use Rattle.timeout.specs.declared.TimeoutOutcome.TheVariants as TimeoutOutcome
 use Rattle.timeout.specs.declared.TimingOut.{TimingOut}
 use Rattle.tracker.specs.declared.ack.AckOutcome.{AckOutcome}
-use Rattle.tracker.specs.declared.ack.AckOutcome.TheVariants as AckOutcome
 use Rattle.tracker.specs.declared.ack.Acking.{Acking}
 use Rattle.play.specs.declared.Answered.{Answered}
-use Rattle.play.specs.declared.Answered.TheVariants as Answered
 use Rattle.play.specs.declared.Played.{Played}
 
 abbrev pub answered_says : Answered → Result run.Answer

@@ -9,7 +9,6 @@ use Rattle.timeout.specs.Claim.{timeout_at, timeout_words}
 use Rattle.tracker.specs.Event.{ack_words}
 use Rattle.trace.specs.Says.{event_says}
 use Rattle.trace.specs.declared.Event.{Event}
-use Rattle.trace.specs.declared.Event.TheVariants as Event
 use Rattle.play.specs.Answers.{answered_says}
 use Rattle.play.specs.declared.Played.{Played}
 

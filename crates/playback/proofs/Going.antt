@@ -9,7 +9,7 @@ use native.Mathlib.Omega.{arith}
 use lib.Dec.{ltb}
 use lib.ListN.{length, set, length-set}
 use Rattle.model.specs.Connection.{Connection}
-use Rattle.model.specs.Run.{Answer, step, state_by, refusal_of}
+use Rattle.model.specs.Run.{step, state_by, refusal_of}
 use Rattle.model.specs.Trace.{Line, line_of, count_by, replayed}
 use Rattle.connection.specs.View.{connection_of}
 use Rattle.trace.specs.Held.{held_words, firsts, words_with}

@@ -7,7 +7,7 @@ use native.Mathlib.Omega.{arith}
 use borrow.Author.Tests.{le-ltb}
 use lib.ListN.{length, take}
 use Rattle.model.specs.Connection.{fresh}
-use Rattle.model.specs.Numbers.{accepted, refused, are_settings}
+use Rattle.model.specs.Numbers.{accepted, are_settings}
 use Rattle.model.specs.Trace.{printed, replay}
 use Rattle.model.specs.declared.Refusal.{Refusal}
 use Rattle.connection.specs.Answers.{Begins}

@@ -1,5 +1,5 @@
 -- What a replay puts out, and what is still to come. 01 'Replay and the host'. Definitions only.
-use Rattle.std.specs.Prelude.{ℕ, ◌+◌, ◌%◌, ◌≤◌, ◌<◌, Bool, true, false, List, [], ◌∷◌, ◌++◌, ◌≡◌, length, take}
+use Rattle.std.specs.Prelude.{ℕ, ◌%◌, ◌≤◌, ◌<◌, Bool, true, false, List, [], ◌∷◌, ◌++◌, ◌≡◌, length, take}
 use Rattle.model.specs.Connection.{Connection}
 use Rattle.model.specs.Run.{refusal_of}
 use Rattle.model.specs.Trace.{Line, shows, bad_at, end, printed}

@@ -1,7 +1,7 @@
 -- The halving search: how often it halves does not matter, a half at a time, what it finds in a memory, and among numbers that rise. Assumes nothing.
 use mathlib.Core.Path.{◌≡◌, refl, ap, sym, ◌∙◌}
 use mathlib.Core.Bool.{Bool, true, false, cond, ◌&&◌}
-use mathlib.Core.List.{List, [], ◌∷◌}
+use mathlib.Core.List.{List}
 use mathlib.Core.Logic.{◌⊎◌, inl, inr, ⊎_elim}
 use Prim.Native.Nat.{ℕ, zero, suc, ◌+◌, ◌-◌, ◌/◌, ◌≤◌, ◌<◌}
 use native.Mathlib.Nat.{eq-zero-or-pos, add-zero}
@@ -10,10 +10,10 @@ use native.Mathlib.Omega.{arith}
 use borrow.Author.Tests.{lt-ltb, le-ltb}
 use lib.Dec.{ltb}
 use lib.ListN.{length, get_or}
-use Rattle.model.specs.Sent.{halved, place_of, number_at, count_below}
+use Rattle.model.specs.Sent.{halved, place_of, number_at}
 use Rattle.model.specs.declared.Sent.{Sent}
 use Rattle.records.specs.Rising.{Rising, First}
-use Rattle.records.specs.View.{at, record_by, record_at, ring, records_of, number_in}
+use Rattle.records.specs.View.{at, record_at, ring, records_of, number_in}
 use Rattle.records.proofs.Rings.{length-ring}
 use Rattle.records.proofs.Laws.{record-number}
 

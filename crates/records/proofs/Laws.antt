@@ -7,10 +7,10 @@ use Prim.Native.Nat.{ℕ, zero, suc, ◌+◌, ◌-◌, ◌*◌, ◌/◌, ◌%◌
 use native.Mathlib.Nat.{mod-mod, eq-zero-or-pos}
 use native.Mathlib.Numerals.{add-one}
 use native.Mathlib.Omega.{arith}
-use borrow.Author.Tests.{eq-eqb, ne_eqb}
+use borrow.Author.Tests.{ne_eqb}
 use lib.Dec.{eqb}
-use lib.ListN.{length, get_or, set, drop, take, length-set, length-append}
-use lib.Seq.{get_or-set_same, get_or-set_other, lt-length-set, set_at, set-set}
+use lib.ListN.{length, get_or, set, drop, length-set, length-append}
+use lib.Seq.{get_or-set_same, get_or-set_other, set_at, set-set}
 use Rattle.arith.specs.Time.{moment}
 use Rattle.arith.specs.declared.time.Moment.{Moment}
 use Rattle.model.specs.Numbers.{capacity, is_unset}
@@ -19,8 +19,8 @@ use Rattle.model.specs.declared.Packet.{Packet}
 use Rattle.model.specs.declared.Sent.{Sent}
 use Rattle.model.specs.declared.Time.{Time}
 use Rattle.model.specs.declared.Time.TheVariants.{Unset, At}
-use Rattle.records.specs.View.{space_words, all_words, at, slot, bit, flags_of, acked_by, lost_by, record_by, record_at, ring, records_of, queue_of, store_record, store_mark, store_handle}
-use Rattle.records.proofs.Rings.{places-apart, ring-ext, ring-mod, ring-step, ring-snoc, ring-around, ring-drop, ring-take, length-ring}
+use Rattle.records.specs.View.{all_words, at, slot, bit, flags_of, acked_by, lost_by, record_by, record_at, records_of, queue_of, store_record, store_mark, store_handle}
+use Rattle.records.proofs.Rings.{places-apart, ring-ext, ring-mod, ring-step, ring-snoc, ring-around, ring-drop, length-ring}
 
 -- ---- where words lie
 

@@ -1,6 +1,6 @@
 -- The handles that a PTO queues, as a list and as stores. 01 'Timer and PTO (000)'. Definitions only.
 -- At most `capacity` records are held and the queue was empty, so the queue is never full and model's `probe_handles` never refuses: `probe-handles` in proofs/Handles.antt.
-use Rattle.std.specs.Prelude.{ℕ, ◌+◌, ◌-◌, ◌≡◌, Bool, true, false, cond, ◌&&◌, List, [], ◌∷◌, eqb, ltb, length}
+use Rattle.std.specs.Prelude.{ℕ, ◌+◌, ◌-◌, ◌≡◌, Bool, cond, ◌&&◌, List, [], ◌∷◌, eqb, ltb, length}
 use Rattle.model.specs.Sent.{standing}
 use Rattle.model.specs.declared.Sent.{Sent}
 use Rattle.records.specs.View.{store_handle}

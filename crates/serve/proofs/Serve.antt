@@ -15,7 +15,6 @@ use Rattle.connection.specs.Steps.{space_state_fresh, fresh_state}
 use Rattle.connection.specs.View.{connection_of, answer_of, Leaves, Does}
 use Rattle.connection.specs.declared.State.{State}
 use Rattle.connection.specs.declared.fresh.Begun.{Begun}
-use Rattle.connection.specs.declared.fresh.Begun.TheVariants as Begun
 use Rattle.plain.proofs.Back.{state-back}
 use Rattle.plain.specs.Values.{state_of, values_of, is_sealed}
 use Rattle.plain.specs.declared.Values.{Values}

@@ -2,7 +2,6 @@
 use mathlib.Core.Path.{◌≡◌}
 use Rattle.timeout.specs.Says.{timeout_says}
 use Rattle.timeout.specs.declared.TimeoutOutcome.{TimeoutOutcome}
-use Rattle.timeout.specs.declared.TimeoutOutcome.TheVariants as TimeoutOutcome
 
 pub one-timeout : (a b : TimeoutOutcome) → timeout_says a ≡ timeout_says b → a ≡ b
 one-timeout (TimeoutOutcome.Accepted o) (TimeoutOutcome.Accepted p) e = cc

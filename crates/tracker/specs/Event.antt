@@ -7,7 +7,6 @@ use Rattle.marks.specs.Store.{store_marks, store_handles}
 use Rattle.connection.specs.View.{normal_of, space_state_at}
 use Rattle.connection.specs.declared.State.{State}
 use Rattle.tracker.specs.declared.ack.AckOutcome.{AckOutcome}
-use Rattle.tracker.specs.declared.ack.AckOutcome.TheVariants as AckOutcome
 
 abbrev pub ack_says : AckOutcome → Result OnAckReceivedOutcome
 ack_says (AckOutcome.Accepted o) = accepted o

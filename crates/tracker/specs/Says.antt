@@ -4,12 +4,9 @@ use Rattle.model.specs.declared.Refusal.TheVariants.{TooLarge}
 use Rattle.model.specs.declared.Reordering.{Reordering}
 use Rattle.tracker.specs.declared.Losses.{Losses}
 use Rattle.tracker.specs.declared.LossPlan.{LossPlan}
-use Rattle.tracker.specs.declared.LossPlan.TheVariants as LossPlan
 use Rattle.tracker.specs.declared.Plan.{Plan}
 use Rattle.tracker.specs.declared.Planned.{Planned}
-use Rattle.tracker.specs.declared.Planned.TheVariants as Planned
 use Rattle.tracker.specs.declared.Reordered.{Reordered}
-use Rattle.tracker.specs.declared.Reordered.TheVariants as Reordered
 
 abbrev pub loss_plan_says : LossPlan → Result Losses
 loss_plan_says (LossPlan.Ends l) = accepted l

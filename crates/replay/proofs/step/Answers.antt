@@ -7,15 +7,15 @@ use Rattle.replay.proofs.step.Goals as goal
 
 pub returns-in_default : goal.returns-in_default
 returns-in_default c =
-    step-shows _ _ _ _ _ _ _ (omega (arith, c.shared_slice_known-1.given c.args.r.at)) (omega arith) c.requires.0 c.turn-turned.ensures _ _ _ _ c.tell.ensures c.requires.1
+    step-shows _ _ _ _ _ _ _ (omega (arith, c.type_inv.bytes c.args.r.at)) (omega arith) c.requires.0 c.turn-turned.ensures _ _ _ _ c.tell.ensures c.requires.1
 
 pub returns-in_default-answered : goal.returns-in_default-answered
 returns-in_default-answered c =
-    step-shows _ _ _ _ _ _ _ (omega (arith, c.shared_slice_known-1.given c.args.r.at)) (omega arith) c.requires.0 c.turn-turned.ensures _ _ _ _ c.tell-in_default-answered.ensures c.requires.1
+    step-shows _ _ _ _ _ _ _ (omega (arith, c.type_inv.bytes c.args.r.at)) (omega arith) c.requires.0 c.turn-turned.ensures _ _ _ _ c.tell-in_default-answered.ensures c.requires.1
 
 pub returns : goal.returns
 returns c =
-    step-shows _ _ _ _ _ _ _ (omega (arith, c.shared_slice_known-1.given c.args.r.at)) (omega arith) c.requires.0 c.turn-turned.ensures _ _ _ _
+    step-shows _ _ _ _ _ _ _ (omega (arith, c.type_inv.bytes c.args.r.at)) (omega arith) c.requires.0 c.turn-turned.ensures _ _ _ _
     (record {
       put = λ m. rw (c.in-Event.is, c.in-Ack.is) (put-text _ _ (c.event_line.ensures m) c.put_line.ensures);
       ended = rw c.in-Event.is;

@@ -1,6 +1,5 @@
 -- `acks::cover::cover` meets its contract. Invariant: the words passed are done, and the rest of the ranges goes on among the records left.
 use Rattle.acks.proofs.Flags.{flags-zeros, found_none, found-near, found-next, covers}
-use Prim.Native.Nat.{◌-◌}
 use mathlib.Core.Path.{refl}
 use native.Mathlib.Omega.{arith}
 use Rattle.acks.proofs.cover.cover.Goals as goal

@@ -1,6 +1,5 @@
 -- `acks::cover::walk` meets its contract. Invariant: the places passed are flagged, and what is left to count is counted from there.
 use Rattle.acks.proofs.Flags.{walking-none, walking_on, walking-stop, walking-end}
-use Prim.Native.Nat.{◌-◌}
 use Rattle.acks.proofs.cover.walk.Goals as goal
 
 pub loop-i-init : goal.loop-i-init

@@ -1,5 +1,5 @@
 -- `arith::root::settle` meets its contract. The invariant: the root lies from lo on and below hi. The measure is their distance.
-use Rattle.std.proofs.Common.{◌-◌, sym, ◌∙◌, arith, leb-false, leb-true}
+use Rattle.std.proofs.Common.{sym, ◌∙◌, arith, leb-false, leb-true}
 use Rattle.arith.proofs.root.Limbs.{next}
 use Rattle.arith.proofs.root.settle.Goals as goal
 

@@ -10,33 +10,33 @@ pub returns-in_default-few_lost : goal.returns-in_default-few_lost
 unfolding acked_outside
 returns-in_default-few_lost c =
     rw (
-  ← c.few_lost.ensures,
-  c.in_default-few_lost.is,
-  c.in-At.is,
-)
+      ← c.few_lost.ensures,
+      c.in_default-few_lost.is,
+      c.in-At.is,
+    )
 
 pub returns-then-both : goal.returns-then-both
 unfolding acked_outside
 returns-then-both c =
     rw (
-  ← c.few_lost.ensures,
-  c.in-Tested.is,
-  ← c.rolls_back.ensures,
-  ← c.both.ensures,
-  c.if-both.true,
-  ← c.rolled_back.ensures,
-  c.in-At.is,
-)
+      ← c.few_lost.ensures,
+      c.in-Tested.is,
+      ← c.rolls_back.ensures,
+      ← c.both.ensures,
+      c.if-both.true,
+      ← c.rolled_back.ensures,
+      c.in-At.is,
+    )
 
 pub returns : goal.returns
 unfolding acked_outside
 returns c =
     rw (
-  ← c.few_lost.ensures,
-  c.in-Tested.is,
-  ← c.rolls_back.ensures,
-  ← c.both.ensures,
-  c.if-both.false,
-  ← c.grow-2.ensures,
-  c.in-At.is,
-)
+      ← c.few_lost.ensures,
+      c.in-Tested.is,
+      ← c.rolls_back.ensures,
+      ← c.both.ensures,
+      c.if-both.false,
+      ← c.grow-2.ensures,
+      c.in-At.is,
+    )

@@ -13,13 +13,13 @@ returns-then-window-gt-MAX_WINDOW c =
 pub returns-then-size-window : goal.returns-then-size-window
 returns-then-size-window c =
     λ k. rw (
-  le-leb _ _ c.if-waiting-size.false,
-  window-past-by 1073741824 _ _ c.if-window-gt-MAX_WINDOW.false c.if-size-window.true,
-)
+      le-leb _ _ c.if-waiting-size.false,
+      window-past-by 1073741824 _ _ c.if-window-gt-MAX_WINDOW.false c.if-size-window.true,
+    )
 
 pub returns : goal.returns
 returns c =
     λ k. rw (
-  le-leb _ _ c.if-waiting-size.false,
-  window-within 1073741824 _ _ c.if-window-gt-MAX_WINDOW.false c.if-size-window.false,
-)
+      le-leb _ _ c.if-waiting-size.false,
+      window-within 1073741824 _ _ c.if-window-gt-MAX_WINDOW.false c.if-size-window.false,
+    )

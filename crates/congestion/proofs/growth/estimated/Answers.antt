@@ -6,23 +6,23 @@ pub returns-then-float_of-w : goal.returns-then-float_of-w
 unfolding estimated
 returns-then-float_of-w c =
     rw (
-  ← c.float_of.ensures,
-  ← c.float_of-2.ensures,
-  ← c.float_of-3.ensures,
-  ← c.w_est_inc-step.ensures,
-  ← c.float_of-4.ensures,
-  c.if-float_of-w.true,
-)
+      ← c.float_of.ensures,
+      ← c.float_of-2.ensures,
+      ← c.float_of-3.ensures,
+      ← c.w_est_inc-step.ensures,
+      ← c.float_of-4.ensures,
+      c.if-float_of-w.true,
+    )
 
 pub returns : goal.returns
 unfolding estimated
 returns c =
     rw (
-  ← c.float_of.ensures,
-  ← c.float_of-2.ensures,
-  ← c.float_of-3.ensures,
-  ← c.w_est_inc-step.ensures,
-  ← c.float_of-4.ensures,
-  c.if-float_of-w.false,
-  ← c.alpha_next.ensures,
-)
+      ← c.float_of.ensures,
+      ← c.float_of-2.ensures,
+      ← c.float_of-3.ensures,
+      ← c.w_est_inc-step.ensures,
+      ← c.float_of-4.ensures,
+      c.if-float_of-w.false,
+      ← c.alpha_next.ensures,
+    )

@@ -6,18 +6,18 @@ pub returns-in_default : goal.returns-in_default
 unfolding few_lost
 returns-in_default c =
     λ k. rw (
-  ← c.quotient-packets.ensures,
-  ← c.multiply.ensures,
-  c.in_default.is,
-)
+      ← c.quotient-packets.ensures,
+      ← c.multiply.ensures,
+      c.in_default.is,
+    )
 
 pub returns : goal.returns
 unfolding few_lost
 returns c =
     λ k. rw (
-  ← c.quotient-packets.ensures,
-  ← c.multiply.ensures,
-  c.in-Fine.is,
-  ← c.greater-threshold.ensures,
-  ← c.above.ensures,
-)
+      ← c.quotient-packets.ensures,
+      ← c.multiply.ensures,
+      c.in-Fine.is,
+      ← c.greater-threshold.ensures,
+      ← c.above.ensures,
+    )

@@ -14,8 +14,8 @@ pub returns : goal.returns
 unfolding packet_acked
 returns c =
     rw (
-  ← c.in_congestion_recovery.ensures,
-  c.if-in_congestion_recovery.false,
-  c.if-limited.false,
-  ← c.acked_outside.ensures,
-)
+      ← c.in_congestion_recovery.ensures,
+      c.if-in_congestion_recovery.false,
+      c.if-limited.false,
+      ← c.acked_outside.ensures,
+    )

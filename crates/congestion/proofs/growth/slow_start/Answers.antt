@@ -10,19 +10,19 @@ pub returns-in_default-by_datagram : goal.returns-in_default-by_datagram
 unfolding slow_start
 returns-in_default-by_datagram c =
     rw (
-  ← c.add_up.ensures,
-  c.in-Fine.is,
-  ← c.by_datagram.ensures,
-  c.in_default-by_datagram.is,
-)
+      ← c.add_up.ensures,
+      c.in-Fine.is,
+      ← c.by_datagram.ensures,
+      c.in_default-by_datagram.is,
+    )
 
 pub returns : goal.returns
 unfolding slow_start
 returns c =
     rw (
-  ← c.add_up.ensures,
-  c.in-Fine.is,
-  ← c.by_datagram.ensures,
-  c.in-To.is,
-  ← c.grown.ensures,
-)
+      ← c.add_up.ensures,
+      c.in-Fine.is,
+      ← c.by_datagram.ensures,
+      c.in-To.is,
+      ← c.grown.ensures,
+    )

@@ -6,11 +6,11 @@ pub returns : goal.returns
 unfolding target_of
 returns c =
     rw (
-  ← c.float_of-w.ensures,
-  ← c.seconds_of.ensures,
-  ← c.float_of.ensures,
-  ← c.w_cubic-target.ensures,
-  ← c.larger.ensures,
-  ← c.smaller.ensures,
-  ← c.truncated.ensures,
-)
+      ← c.float_of-w.ensures,
+      ← c.seconds_of.ensures,
+      ← c.float_of.ensures,
+      ← c.w_cubic-target.ensures,
+      ← c.larger.ensures,
+      ← c.smaller.ensures,
+      ← c.truncated.ensures,
+    )

@@ -12,9 +12,9 @@ pub returns : goal.returns
 unfolding k_next
 returns c =
     rw (
-  ← c.float_of-w.ensures,
-  c.if-w_max-w.false,
-  ← c.float_of.ensures,
-  ← c.cubic_k_argument.ensures,
-  ← root_is c.cube_root.ensures,
-)
+      ← c.float_of-w.ensures,
+      c.if-w_max-w.false,
+      ← c.float_of.ensures,
+      ← c.cubic_k_argument.ensures,
+      ← root_is c.cube_root.ensures,
+    )

@@ -11,40 +11,40 @@ pub returns-then-window-gt-MAX_WINDOW : goal.returns-then-window-gt-MAX_WINDOW
 unfolding reduce
 returns-then-window-gt-MAX_WINDOW c =
     rw (
-  ← c.multiply.ensures,
-  c.in-Fine.is,
-  ← c.times_beta.ensures,
-  ← c.greater-window.ensures,
-  lt-leb _ _ c.if-window-gt-MAX_WINDOW.true,
-)
+      ← c.multiply.ensures,
+      c.in-Fine.is,
+      ← c.times_beta.ensures,
+      ← c.greater-window.ensures,
+      lt-leb _ _ c.if-window-gt-MAX_WINDOW.true,
+    )
 
 pub returns-in_default-cubic_k : goal.returns-in_default-cubic_k
 unfolding reduce k_by
 returns-in_default-cubic_k c =
     rw (
-  ← c.multiply.ensures,
-  c.in-Fine.is,
-  ← c.times_beta.ensures,
-  ← c.greater-window.ensures,
-  le-leb _ _ c.if-window-gt-MAX_WINDOW.false,
-  ← c.w_max_next-w_max.ensures,
-  ← c.cubic_k.ensures,
-  c.in_default-cubic_k.is,
-)
+      ← c.multiply.ensures,
+      c.in-Fine.is,
+      ← c.times_beta.ensures,
+      ← c.greater-window.ensures,
+      le-leb _ _ c.if-window-gt-MAX_WINDOW.false,
+      ← c.w_max_next-w_max.ensures,
+      ← c.cubic_k.ensures,
+      c.in_default-cubic_k.is,
+    )
 
 pub returns : goal.returns
 unfolding reduce k_by
 returns c =
     rw (
-  ← c.multiply.ensures,
-  c.in-Fine.is,
-  ← c.times_beta.ensures,
-  ← c.greater-window.ensures,
-  le-leb _ _ c.if-window-gt-MAX_WINDOW.false,
-  ← c.w_max_next-w_max.ensures,
-  ← c.cubic_k.ensures,
-  c.in-Is.is,
-  ← c.float_of.ensures,
-  ← c.times_beta-2.ensures,
-  ← c.checkpoint.ensures,
-)
+      ← c.multiply.ensures,
+      c.in-Fine.is,
+      ← c.times_beta.ensures,
+      ← c.greater-window.ensures,
+      le-leb _ _ c.if-window-gt-MAX_WINDOW.false,
+      ← c.w_max_next-w_max.ensures,
+      ← c.cubic_k.ensures,
+      c.in-Is.is,
+      ← c.float_of.ensures,
+      ← c.times_beta-2.ensures,
+      ← c.checkpoint.ensures,
+    )

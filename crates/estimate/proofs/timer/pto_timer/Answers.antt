@@ -12,14 +12,14 @@ pub returns-in_default : goal.returns-in_default
 unfolding pto_timer
 returns-in_default c =
     elim c.if-f-eq0.branch [
-      then-f-eq0+else-status w ↦ rw (← c.pto_time_and_space.ensures, eq-eqb _ _ w.if-f-eq0.true, w.if-status.false, c.in_default.is)
-    | else-f-eq0 w ↦ rw (← c.pto_time_and_space.ensures, ne_eqb _ _ w.if-f-eq0.false, c.in_default.is)
+      | then-f-eq0+else-status w ↦ rw (← c.pto_time_and_space.ensures, eq-eqb _ _ w.if-f-eq0.true, w.if-status.false, c.in_default.is)
+      | else-f-eq0 w ↦ rw (← c.pto_time_and_space.ensures, ne_eqb _ _ w.if-f-eq0.false, c.in_default.is)
     ]
 
 pub returns : goal.returns
 unfolding pto_timer
 returns c =
     elim c.if-f-eq0.branch [
-      then-f-eq0+else-status w ↦ rw (← c.pto_time_and_space.ensures, eq-eqb _ _ w.if-f-eq0.true, w.if-status.false, c.in-Is.is)
-    | else-f-eq0 w ↦ rw (← c.pto_time_and_space.ensures, ne_eqb _ _ w.if-f-eq0.false, c.in-Is.is)
+      | then-f-eq0+else-status w ↦ rw (← c.pto_time_and_space.ensures, eq-eqb _ _ w.if-f-eq0.true, w.if-status.false, c.in-Is.is)
+      | else-f-eq0 w ↦ rw (← c.pto_time_and_space.ensures, ne_eqb _ _ w.if-f-eq0.false, c.in-Is.is)
     ]

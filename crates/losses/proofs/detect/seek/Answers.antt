@@ -1,5 +1,4 @@
 -- `detect::seek` meets its contract. The loop's invariant: seeking from place i on with the tally comes to what seeking from the start does, and no more packets than places were lost. The measure is the places left.
-use Prim.Native.Nat.{◌-◌}
 use mathlib.Core.Path.{refl, ap, ◌∙◌}
 use native.Mathlib.Omega.{arith}
 use Rattle.marks.specs.declared.LostTally.{LostTally}

@@ -1,5 +1,4 @@
 -- `drain::drain` meets its contract. The loop's invariant: draining from place i on ends where draining from the start does. The measure is the places left.
-use Prim.Native.Nat.{◌-◌}
 use mathlib.Core.Path.{refl}
 use native.Mathlib.Omega.{arith}
 use Rattle.losses.proofs.Turns.{leaves-round, drain-on, drain-stop, drain-end}
@@ -18,12 +17,11 @@ returns-then-not-may_leave c =
     (leaves-round _ _ _ _ _ _ _ _ c.may_leave.ensures (c.if-not-may_leave.true)))
 
 pub loop-i-preserved : goal.loop-i-preserved
-loop-i-preserved c =
-    (
-      omega arith,
-      drain-on _ _ _ _ _ _ c.loop-i.invariant.1 c.loop-i-test.true
-          (leaves-round _ _ _ _ _ _ _ _ c.may_leave.ensures (c.if-not-may_leave.false)),
-    )
+loop-i-preserved c = (
+  omega arith,
+  drain-on _ _ _ _ _ _ c.loop-i.invariant.1 c.loop-i-test.true
+      (leaves-round _ _ _ _ _ _ _ _ c.may_leave.ensures (c.if-not-may_leave.false)),
+)
 
 pub returns : goal.returns
 returns c =

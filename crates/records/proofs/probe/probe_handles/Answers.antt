@@ -1,5 +1,4 @@
 -- `probe::probe_handles` meets its contract. The invariant: the handles still to come, stored from the next free place on, give the same end.
-use Prim.Native.Nat.{◌-◌}
 use native.Mathlib.Omega.{arith}
 use Rattle.records.proofs.Handles.{left-start, put_small, left-none, left_end, left-on, left-put}
 use Rattle.records.proofs.probe.probe_handles.Goals.{then-awaits, else-awaits}
@@ -16,13 +15,14 @@ loop-i-preserved c =
     let inv = c.loop-i.invariant.1 in
     let lt = c.loop-i-test.true in
     elim c.if-awaits.branch [
-      then-awaits w ↦
-        rw (w.m-is, w.left-is, w.stored-is)
-        (omega arith,
-        (omega (arith, put_small w.put-stored.ensures), left-put _ _ _ _ _ _ _ _ _ inv.1 lt c.if-left-eq0.false c.awaits.ensures w.if-awaits.true w.record_handle_at-handle.ensures w.put-stored.ensures))
-    | else-awaits w ↦
-        rw (w.m-is, w.left-is, w.stored-is)
-        (omega arith, (omega arith, left-on _ _ _ _ _ _ _ _ _ inv.1 lt c.if-left-eq0.false c.awaits.ensures w.if-awaits.false))
+      | then-awaits w ↦
+          rw (w.m-is, w.left-is, w.stored-is) (
+            omega arith,
+            (omega (arith, put_small w.put-stored.ensures), left-put _ _ _ _ _ _ _ _ _ inv.1 lt c.if-left-eq0.false c.awaits.ensures w.if-awaits.true w.record_handle_at-handle.ensures w.put-stored.ensures),
+          )
+      | else-awaits w ↦
+          rw (w.m-is, w.left-is, w.stored-is)
+          (omega arith, (omega arith, left-on _ _ _ _ _ _ _ _ _ inv.1 lt c.if-left-eq0.false c.awaits.ensures w.if-awaits.false))
     ]
 
 pub returns : goal.returns

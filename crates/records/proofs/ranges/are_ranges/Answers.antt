@@ -1,6 +1,5 @@
 -- `ranges::are_ranges` meets its contract. The invariant: the words from k on ascend if and only if all do.
 use mathlib.Core.Path.{refl}
-use Prim.Native.Nat.{◌-◌}
 use native.Mathlib.Omega.{arith}
 use Rattle.records.proofs.Pairs.{ranges-none, ranges-many, ranges-by, ascending-odd, ascending-low, ascending-turned, ascending-far, ascending-on, ascending-end}
 use Rattle.records.proofs.ranges.are_ranges.Goals as goal

@@ -1,6 +1,6 @@
 -- `scan::outstanding_bytes` meets its contract. The invariant: the total and what is still out of the records from place i on are the whole.
 use mathlib.Core.Path.{ap, ◌∙◌}
-use Prim.Native.Nat.{ℕ, ◌-◌, ◌%◌}
+use Prim.Native.Nat.{ℕ, ◌%◌}
 use native.Mathlib.Omega.{arith}
 use Rattle.arith.specs.Whole.{within}
 use Rattle.model.specs.Connection.{outstanding}
@@ -19,14 +19,13 @@ returns-in-Over c =
     ∙ ap (λ (k : ℕ). within (outstanding (records_of a.m.now a.n (a.head % capacity) k))) c.held-count.ensures
 
 pub loop-i-preserved : goal.loop-i-preserved
-loop-i-preserved c =
-    (
-      omega arith,
-      (
-        scan-small _ _ _ _ _ _ _ c.loop-i.invariant.1.1 c.loop-i-test.true c.weight_at.ensures c.add_up-sum.ensures c.in-Fine.is,
-        scan-on _ _ _ _ _ _ _ c.loop-i.invariant.1.1 c.loop-i-test.true c.weight_at.ensures c.add_up-sum.ensures c.in-Fine.is,
-      ),
-    )
+loop-i-preserved c = (
+  omega arith,
+  (
+    scan-small _ _ _ _ _ _ _ c.loop-i.invariant.1.1 c.loop-i-test.true c.weight_at.ensures c.add_up-sum.ensures c.in-Fine.is,
+    scan-on _ _ _ _ _ _ _ c.loop-i.invariant.1.1 c.loop-i-test.true c.weight_at.ensures c.add_up-sum.ensures c.in-Fine.is,
+  ),
+)
 
 pub returns : goal.returns
 returns c =

@@ -1,5 +1,4 @@
 -- `put::put_word` meets its contract. The invariant: the bytes passed are written.
-use Prim.Native.Nat.{◌-◌}
 use native.Mathlib.Omega.{arith}
 use Rattle.trace.proofs.Puts.{put-length, put-none, put-more, put_whole}
 use Rattle.trace.proofs.put.put_word.Goals as goal

@@ -1,6 +1,6 @@
 -- `read::number_at` meets its contract. The invariant: n is the number of the bytes passed.
 use mathlib.Core.Path.{◌≡◌, refl}
-use Prim.Native.Nat.{◌+◌, ◌-◌, ◌<◌}
+use Prim.Native.Nat.{◌+◌, ◌<◌}
 use native.Mathlib.Omega.{arith}
 use Rattle.model.specs.Trace.{big_endian}
 use Rattle.trace.proofs.Fields.{number_more, whole-number, number-room, number-below}

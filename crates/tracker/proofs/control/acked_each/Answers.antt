@@ -5,7 +5,6 @@ use Rattle.marks.specs.Marks.{flagged, held_at}
 use Rattle.model.specs.declared.Sent.{Sent}
 use mathlib.Core.List.{List}
 use native.Mathlib.Omega.{arith}
-use Prim.Native.Nat.{◌-◌}
 use Rattle.model.specs.Control.{control, ack_each}
 use mathlib.Core.Path.{ap, sym, ◌∙◌}
 use Rattle.tracker.proofs.control.acked_each.Goals as goal

@@ -1,7 +1,7 @@
 -- `detect::ended` meets its contract: where a detection that stopped leaves the space is what `ends_of` says.
 use Rattle.model.specs.Numbers.{capacity}
 use native.Mathlib.Omega.{arith}
-use Prim.Native.Nat.{◌-◌, min}
+use Prim.Native.Nat.{min}
 use mathlib.Core.Path.{◌≡◌, refl}
 use Rattle.tracker.proofs.detect.ended.Goals as goal
 

@@ -2,7 +2,7 @@
 use Rattle.tracker.specs.Plan.{plan_losses}
 use Rattle.model.specs.Numbers.{capacity}
 use native.Mathlib.Omega.{arith}
-use Prim.Native.Nat.{◌-◌, min}
+use Prim.Native.Nat.{min}
 use mathlib.Core.Path.{◌≡◌, refl}
 use Rattle.tracker.proofs.detect.plan_losses.Goals as goal
 
