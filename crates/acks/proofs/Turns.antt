@@ -74,11 +74,11 @@ module _ (time : Moment) (limited : Bool) (min_rtt : Span) (m : List ℕ) (n k :
   stands : standing (record_at m n k) ≡ eqb v 0
   stands = rw (record-by m n k, e) (standing-mark m n k (get_or m (at n k 5) 0))
 
-  pub one-marked : (v ≡ 0 → ⊥) → accepted g ≡ ack_one time limited min_rtt (record_at m n k) g
+  pub one_marked : (v ≡ 0 → ⊥) → accepted g ≡ ack_one time limited min_rtt (record_at m n k) g
   unfolding ack_one
-  one-marked p = rw (stands, ne_eqb v 0 p) refl
+  one_marked p = rw (stands, ne_eqb v 0 p) refl
 
-  pub one-stands : v ≡ 0 → {r : Sent} (x : Moved) → r ≡ record_at m n k → moved_says x ≡ packet_acked time r.time_sent r.size limited min_rtt g →
+  pub one_stands : v ≡ 0 → {r : Sent} (x : Moved) → r ≡ record_at m n k → moved_says x ≡ packet_acked time r.time_sent r.size limited min_rtt g →
       moved_says x ≡ ack_one time limited min_rtt (record_at m n k) g
   unfolding ack_one
-  one-stands p x a b = rw (stands, eq-eqb v 0 p) (rw a at b)
+  one_stands p x a b = rw (stands, eq-eqb v 0 p) (rw a at b)

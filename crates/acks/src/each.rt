@@ -15,6 +15,7 @@ use model::Congestion;
 use records::memory::{CAPACITY, Words, mark_at, record_at};
 
 // The record in slot k of space n, which a range holds: the controller learns of it if it stands.
+#[tactic(auto, using(crate::proofs::Turns::one_marked, crate::proofs::Turns::one_stands))]
 fn ack_one(
     m: &Words,
     n: u64,

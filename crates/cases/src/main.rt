@@ -12,9 +12,10 @@ use playback::progress::{Progress, tell};
 use playback::start::{begin, no_ranges, no_words, start_with};
 use playback::{Ranges, Replay, turn};
 use records::memory::Words;
+use std::env::{Env, FillError};
 use std::io::Write;
 use std::rt::Files;
-use std::{env, fs, io};
+use std::{fs, io, str};
 use trace::line::too_long;
 
 // The first n bytes, written.
@@ -81,10 +82,34 @@ fn print_case(rt: &(impl Files + Print), path: &str) -> anyhow::Result<()> {
     print_replay(&mut out, first(&buf, n)).context("standard output")
 }
 
+fn print_argument(rt: &(impl Env + Files + Print), i: usize) -> anyhow::Result<()> {
+    let mut room = [0; 4096];
+    let path = argument(rt, i, &mut room).context("PATH")?;
+    print_case(rt, path)
+}
+
+// The argument at i, as text. None is longer than a path may be.
+fn argument<'a>(rt: &impl Env, i: usize, room: &'a mut [u8]) -> io::Result<&'a str> {
+    let Ok(n) = rt.arg(i, room) else {
+        return Err(io::Error::from(io::ErrorKind::InvalidFilename));
+    };
+    match str::from_utf8(&room[..n]) {
+        Ok(path) => Ok(path),
+        Err(_) => Err(io::Error::from(io::ErrorKind::InvalidData)),
+    }
+}
+
+fn is_given(rt: &impl Env, i: usize) -> bool {
+    !matches!(rt.arg(i, &mut [0]), Err(FillError::NotPresent))
+}
+
 // A case that fails is told on standard error, and the next one follows.
 fn main(rt: HostRuntime) -> anyhow::Result<()> {
-    for path in env::args(&rt).context("PATH")?.skip(1) {
-        if let Err(error) = print_case(&rt, path.as_str()) {
+    for i in 1..usize::MAX {
+        if !is_given(&rt, i) {
+            return Ok(());
+        }
+        if let Err(error) = print_argument(&rt, i) {
             eprintln!(rt; "{error:#}").context("standard error")?;
         }
     }

@@ -54,6 +54,7 @@ pub fn smaller(a: f64, b: f64) -> f64
 }
 
 // w_max after a loss at this window: fast convergence. 01 CUBIC; 001 congestion_event; RFC 9438 section 4.7
+#[tactic(auto, unfolding(model::specs::Cubic::w_max_next))]
 pub fn w_max_next(window: u64, w_max: f64) -> f64
     ensures { result ≡ cubic.w_max_next window w_max }
 {

@@ -10,6 +10,7 @@ const MAX_SIZE: u64 = 65527;
 const NUMBERS: u64 = 4611686018427387904;
 
 // Whether refusal 2 spares a packet of space n. 01 The stage numbers
+#[tactic(auto, unfolding(model::specs::Events::is_packet, model::specs::Numbers::is_size))]
 pub fn is_packet(n: u64, p: Packet) -> bool
     ensures { result ≡ is_packet n p }
 {

@@ -17,9 +17,10 @@ use playback::progress::{Progress, tell};
 use playback::start::{begin, no_ranges, no_words, start_with};
 use playback::{Met, Ranges, Replay, turn};
 use records::memory::Words;
+use std::env::{Env, FillError};
 use std::io::{Read, Write};
 use std::rt::Files;
-use std::{env, fs, io};
+use std::{fs, io, str};
 use trace::line::too_long;
 
 const USAGE: &str = "usage: inspect [PATH]
@@ -103,13 +104,37 @@ fn inspect_path(rt: &(impl Files + Print), path: &str) -> anyhow::Result<()> {
     inspect_from(&mut file, path, &mut out)
 }
 
-fn main(rt: HostRuntime) -> anyhow::Result<()> {
-    let mut args = env::args(&rt).context("PATH")?.skip(1);
-    let Some(path) = args.next() else {
-        return inspect_from(&mut rt.reader(), "standard input", &mut io::writer(&rt));
+// The argument at i, as text. None is longer than a path may be.
+fn argument<'a>(rt: &impl Env, i: usize, room: &'a mut [u8]) -> io::Result<&'a str> {
+    let Ok(n) = rt.arg(i, room) else {
+        return Err(io::Error::from(io::ErrorKind::InvalidFilename));
     };
-    if args.next().is_some() {
+    match str::from_utf8(&room[..n]) {
+        Ok(path) => Ok(path),
+        Err(_) => Err(io::Error::from(io::ErrorKind::InvalidData)),
+    }
+}
+
+fn is_given(rt: &impl Env, i: usize) -> bool {
+    !matches!(rt.arg(i, &mut [0]), Err(FillError::NotPresent))
+}
+
+fn run(rt: &HostRuntime) -> anyhow::Result<()> {
+    if !is_given(rt, 1) {
+        return inspect_from(&mut rt.reader(), "standard input", &mut io::writer(rt));
+    }
+    if is_given(rt, 2) {
         return print_usage(&mut rt.stderr()).context("standard error");
     }
-    inspect_path(&rt, path.as_str())
+    let mut room = [0; 4096];
+    let path = argument(rt, 1, &mut room).context("PATH")?;
+    inspect_path(rt, path)
+}
+
+// What fails is told in a line on standard error.
+fn main(rt: HostRuntime) -> anyhow::Result<()> {
+    if let Err(error) = run(&rt) {
+        eprintln!(rt; "{error:#}").context("standard error")?;
+    }
+    Ok(())
 }

@@ -1,9 +1,8 @@
 // What an acknowledgement and a loss detection are about to do to the records of a space, before anything is stored.
 // A refusal may arise late in an event, so an event decides first, reading only, and stores when nothing can refuse any more.
-
-// Which records the ranges hold, a number for each place from the front on (1 where one does), and the place after the last such record.
 #![tactic(auto)]
 
+// Which records the ranges hold, a number for each place from the front on (1 where one does), and the place after the last such record.
 #[derive(Clone, Copy)]
 pub struct Covered {
     pub flags: [u8; 256],
