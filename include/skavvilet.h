@@ -1,7 +1,7 @@
 /*
  * Skavvilet: the loss recovery of a QUIC sender, for hosts in C and C++.
  *
- * Link libhost.a (x86-64, System V ABI). It calls nothing but memcpy and its like, allocates nothing,
+ * Link libhost.a (x86-64-v2, System V ABI). It calls nothing but memcpy and its like, allocates nothing,
  * has no state of its own and gets by with 16 kB of stack.
  *
  * The record. A host holds one skavvilet_connection for each connection and lends it to each call.
