@@ -1,5 +1,5 @@
 -- Which records the ranges hold, a range at a time: the flags of a list, the walk, the search, and the place after the last one held. Assumes nothing.
-use mathlib.Core.Path.{◌≡◌, refl, ap, sym, ◌∙◌}
+use mathlib.Core.Path.{◌≡◌, refl, ap, sym, subst, ◌∙◌}
 use mathlib.Core.Bool.{Bool, true, false, cond, ◌&&◌}
 use mathlib.Core.List.{List, [], ◌∷◌, ◌++◌, append-nil, append_assoc}
 use mathlib.Core.Logic.{⊎_elim}
@@ -9,7 +9,7 @@ use native.Mathlib.Omega.{arith}
 use borrow.Author.Tests.{eq-eqb, ne_eqb, lt-ltb, le-ltb}
 use lib.Dec.{eqb, ltb}
 use lib.ListN.{length, get_or, set, take, drop, replicate, length-append, length-drop, length-replicate, length-set, get_or-replicate, replicate-append-replicate, take-append-drop, get_or-append, get_or-eq_default}
-use lib.Seq.{drop-cons, get_or-append-add, get_or-set_same, get_or-set_other, length-take-le, take_at, drop_at, drop-drop, get_or_at}
+use lib.Seq.{take-length, get_or-append-add, get_or-set_same, get_or-set_other, length-take-le, take_at, drop_at, drop-drop, get_or_at}
 use Rattle.model.specs.Numbers.{capacity}
 use Rattle.model.specs.Sent.{halved, number_at, place_of, count_below, covered}
 use Rattle.model.specs.declared.Sent.{Sent}
@@ -17,6 +17,8 @@ use Rattle.records.specs.View.{at, bit, record_at, records_of}
 use Rattle.records.proofs.Laws.{record-number, records-first, records-drop, records-mod, length-records}
 use Rattle.records.proofs.Rings.{ring-end}
 use Rattle.records.proofs.Halving.{lt-or-ge}
+use Rattle.marks.specs.Marks.{flagged}
+use Rattle.marks.specs.declared.Covered.{Covered}
 use Rattle.acks.specs.Cover.{past_last, Flags, Covers, Walked, Ranged}
 use Rattle.acks.specs.declared.cover.Reach.{Reach}
 
@@ -39,47 +41,43 @@ replicate-snoc k = sym (replicate-append-replicate k 1 true)
 
 -- ---- flags
 
--- nothing is flagged
-zeros-at : (k i : ℕ) → ◌≡◌ {A = ℕ} (get_or (replicate k 0) i 0) 0
-zeros-at k i = ⊎_elim (λ lt. get_or-replicate k i 0 0 lt) (λ ge. get_or-eq_default (replicate k 0) 0 (rw length-replicate ge)) (lt-or-ge i k)
+pub flags-zeros : Flags (replicate capacity false) []
+flags-zeros = record { held = λ i. false-at capacity i ∙ sym (nil-at i); size = length-replicate {A = Bool} capacity false }
 
-pub flags-zeros : Flags (replicate capacity 0) []
-flags-zeros = record { held = λ i. zeros-at capacity i ∙ ap bit (sym (nil-at i)); size = length-replicate {A = ℕ} capacity 0 }
-
-pub flags-false : (fs : List ℕ) (bs : List Bool) (k : ℕ) → Flags fs bs → Flags fs (bs ++ replicate k false)
+pub flags-false : (fs : List Bool) (bs : List Bool) (k : ℕ) → Flags fs bs → Flags fs (bs ++ replicate k false)
 flags-false fs bs k f =
     record {
-      held = λ i. f.held i ∙ ap bit (sym (⊎_elim
+      held = λ i. f.held i ∙ sym (⊎_elim
           (λ lt. get_or-append bs (replicate k false) false i lt)
           (λ ge. past_end bs (replicate k false) i ge ∙ false-at k (i - length bs) ∙ sym (get_or-eq_default bs false ge))
-          (lt-or-ge i (length bs))));
+          (lt-or-ge i (length bs)));
       size = f.size;
     }
 
-pub flags-true : (fs : List ℕ) (bs : List Bool) (i : ℕ) → Flags fs bs → length bs ≡ i → i < capacity → Flags (set fs i 1) (bs ++ (true ∷ []))
+pub flags-true : (fs : List Bool) (bs : List Bool) (i : ℕ) → Flags fs bs → length bs ≡ i → i < capacity → Flags (set fs i true) (bs ++ (true ∷ []))
 flags-true fs bs i f len lt =
     record {
       held = λ j. ⊎_elim
           (λ (l : j < i).
-          get_or-set_other fs i j 1 0 (λ e. let z : ⊥ = omega arith in z)
-          ∙ f.held j ∙ ap bit (sym (get_or-append bs (true ∷ []) false j (omega arith))))
+          get_or-set_other fs i j true false (λ e. let z : ⊥ = omega arith in z)
+          ∙ f.held j ∙ (sym (get_or-append bs (true ∷ []) false j (omega arith))))
           (λ (l : i ≤ j). ⊎_elim
           (λ (k : i < j).
-          get_or-set_other fs i j 1 0 (λ e. let z : ⊥ = omega arith in z)
+          get_or-set_other fs i j true false (λ e. let z : ⊥ = omega arith in z)
           ∙ f.held j
-          ∙ ap bit (get_or-eq_default bs false (omega arith))
-          ∙ ap bit (sym (get_or-eq_default (bs ++ (true ∷ [])) false (rw length-append (omega arith)))))
+          ∙ (get_or-eq_default bs false (omega arith))
+          ∙ (sym (get_or-eq_default (bs ++ (true ∷ [])) false (rw length-append (omega arith)))))
           (λ (k : j ≤ i).
           let e : j ≡ i = omega arith in
-          rw (e, get_or-set_same fs i 1 0 (rw f.size lt), get_or_at bs true [] false i len))
+          rw (e, get_or-set_same fs i true false (rw f.size lt), get_or_at bs true [] false i len))
           (lt-or-ge i j))
           (lt-or-ge j i);
-      size = length-set fs i 1 ∙ f.size;
+      size = length-set fs i true ∙ f.size;
     }
 
 -- one record more in the walk
-pub flags-walk : (fs : List ℕ) (bs : List Bool) (place i : ℕ) → length bs ≡ place → place ≤ i → i < capacity →
-    Flags fs (bs ++ replicate (i - place) true) → Flags (set fs i 1) (bs ++ replicate (i + 1 - place) true)
+pub flags-walk : (fs : List Bool) (bs : List Bool) (place i : ℕ) → length bs ≡ place → place ≤ i → i < capacity →
+    Flags fs (bs ++ replicate (i - place) true) → Flags (set fs i true) (bs ++ replicate (i + 1 - place) true)
 flags-walk fs bs place i len le lt f =
     let e : i + 1 - place ≡ i - place + 1 = omega arith in
     let g : length (bs ++ replicate (i - place) true) ≡ i = rw (length-append, length-replicate) (omega arith) in
@@ -110,19 +108,14 @@ module _ (m : List ℕ) (n first count end i : ℕ) where
   count-end le = rw (ring-end (record_at m n) (first + i) (count - i) (omega arith))
 
 -- the places from `place` to i are flagged
-pub record Walking (m : List ℕ) (n first count end place : ℕ) (fs : List ℕ) (i : ℕ) (gs : List ℕ) : Type 0 where
+pub record Walking (m : List ℕ) (n first count end place : ℕ) (fs : List Bool) (i : ℕ) (gs : List Bool) : Type 0 where
   pub from : place ≤ i
   pub within : i ≤ count
   pub same : count_below end (left m n first count place) ≡ i - place + count_below end (left m n first count i)
   pub flags : (bs : List Bool) → Flags fs bs → length bs ≡ place → Flags gs (bs ++ replicate (i - place) true)
 
-pub walking-none : (m : List ℕ) (n first count end place : ℕ) (fs : List ℕ) → place ≤ count → Walking m n first count end place fs place fs
-walking-none m n first count end place fs le =
-    let e : place - place ≡ 0 = omega arith in
-    record { from = omega arith; within = le; same = rw e (omega arith); flags = λ bs f len. rw (e, append-nil bs) f }
-
-module _ {m : List ℕ} {n first count end place : ℕ} {fs : List ℕ} {i : ℕ} {gs : List ℕ} (w : Walking m n first count end place fs i gs) where
-  pub walking_on : i < count → count ≤ capacity → get_or m (at n (first + i) 0) 0 < end → Walking m n first count end place fs (i + 1) (set gs i 1)
+module _ {m : List ℕ} {n first count end place : ℕ} {fs : List Bool} {i : ℕ} {gs : List Bool} (w : Walking m n first count end place fs i gs) where
+  pub walking_on : i < count → count ≤ capacity → get_or m (at n (first + i) 0) 0 < end → Walking m n first count end place fs (i + 1) (set gs i true)
   walking_on lt le below =
       let a = count-on m n first count end i lt below in
       let b = w.same in
@@ -141,11 +134,11 @@ module _ {m : List ℕ} {n first count end place : ℕ} {fs : List ℕ} {i : ℕ
       let e : count_below end (left m n first count place) ≡ i - place = omega arith in
       record { to = omega arith; flags = λ bs f len. rw e (w.flags bs f len) }
 
-  pub walking-stop : i < count → end ≤ get_or m (at n (first + i) 0) 0 → Walked (left m n first count place) end place i fs gs
-  walking-stop lt above = done (count-stop m n first count end i lt above)
+  pub walking_stop : i < count → end ≤ get_or m (at n (first + i) 0) 0 → Walked (left m n first count place) end place i fs gs
+  walking_stop lt above = done (count-stop m n first count end i lt above)
 
-  pub walking-end : count ≤ i → Walked (left m n first count place) end place i fs gs
-  walking-end le = done (count-end m n first count end i le)
+  pub walking_end : count ≤ i → Walked (left m n first count place) end place count fs gs
+  walking_end le = let e : i ≡ count = omega (arith, w.within) in subst (λ (k : ℕ). Walked (left m n first count place) end place k fs gs) e (done (count-end m n first count end i le))
 
 -- ---- what the search and the walk answer lies among the records
 
@@ -199,33 +192,22 @@ length-covered (start ∷ (end ∷ more)) l =
     let b = length-covered more (drop (before start l + inside start end l) l) in
     rw (length-append, length-append, length-replicate, length-replicate, b, length-drop) (omega arith)
 
-two-words : (l : List ℕ) (k : ℕ) → k + 1 < length l → drop k l ≡ get_or l k 0 ∷ (get_or l (k + 1) 0 ∷ drop (k + 2) l)
-two-words l k lt =
-    let a : drop k l ≡ get_or l k 0 ∷ drop (suc k) l = drop-cons l k 0 (omega arith) in
-    let b : drop (k + 1) l ≡ get_or l (k + 1) 0 ∷ drop (suc (k + 1)) l = drop-cons l (k + 1) 0 lt in
-    let e : suc k ≡ k + 1 = omega arith in
-    let f : suc (k + 1) ≡ k + 2 = omega arith in
-    rw (a, e, b, f)
+two-words : (l : List ℕ) → 2 ≤ length l → l ≡ get_or l 0 0 ∷ (get_or l 1 0 ∷ take (length l - 2) (drop 2 l))
+two-words [] h = absurd (let z : ⊥ = omega arith in z)
+two-words (s ∷ []) h = absurd (let z : ⊥ = omega arith in z)
+two-words (s ∷ (e ∷ more)) h = let n : suc (suc (length more)) - 2 ≡ length more = omega arith in rw (n, take-length) refl
 
-covered-two : (words : List ℕ) (k : ℕ) (l : List Sent) → k + 1 < length words →
-    covered (drop k words) l
-    ≡ (replicate (before (get_or words k 0) l) false ++ replicate (inside (get_or words k 0) (get_or words (k + 1) 0) l) true)
-    ++ covered (drop (k + 2) words) (drop (before (get_or words k 0) l + inside (get_or words k 0) (get_or words (k + 1) 0) l) l)
+covered-two : (start end : ℕ) (more : List ℕ) (l : List Sent) →
+    covered (start ∷ (end ∷ more)) l
+    ≡ (replicate (before start l) false ++ replicate (inside start end l) true) ++ covered more (drop (before start l + inside start end l) l)
 unfolding covered
-covered-two words k l lt =
-    let s = get_or words k 0 in
-    let e = get_or words (k + 1) 0 in
-    ap (λ (ws : List ℕ). covered ws l) (two-words words k lt)
-    ∙ sym (append_assoc (replicate (before s l) false) (replicate (inside s e l) true) (covered (drop (k + 2) words) (drop (before s l + inside s e l) l)))
+covered-two s e more l = sym (append_assoc (replicate (before s l) false) (replicate (inside s e l) true) (covered more (drop (before s l + inside s e l) l)))
 
 covered-short : (words : List ℕ) (l : List Sent) → length words ≤ 1 → covered words l ≡ replicate (length l) false
 unfolding covered
 covered-short [] l h = refl
 covered-short (s ∷ []) l h = refl
 covered-short (s ∷ (e ∷ words)) l h = absurd (let z : ⊥ = omega arith in z)
-
-covered-end : (words : List ℕ) (k : ℕ) (l : List Sent) → length words ≤ k + 1 → covered (drop k words) l ≡ replicate (length l) false
-covered-end words k l h = covered-short (drop k words) l (rw length-drop (omega arith))
 
 -- ---- the place after the last
 
@@ -289,53 +271,53 @@ past_off (b ∷ bs) i le = ⊎_elim
 
 -- ---- the loop over the ranges
 
--- the first k words are done: the records up to the place reached are flagged
-pub record Found (l : List Sent) (words : List ℕ) (k : ℕ) (w : Reach) (fs : List ℕ) : Type 0 where
+-- the words before `rest` are done: the records up to the place reached are flagged
+pub record Found (l : List Sent) (words rest : List ℕ) (w : Reach) (fs : List Bool) : Type 0 where
   pub within : w.place ≤ length l
   pub flags : Flags fs (take w.place (covered words l))
-  pub rest : drop w.place (covered words l) ≡ covered (drop k words) (drop w.place l)
+  pub left : drop w.place (covered words l) ≡ covered rest (drop w.place l)
   pub last : w.last ≡ past_last (take w.place (covered words l))
 
-pub found_none : (l : List Sent) (words fs : List ℕ) (w : Reach) → w.place ≡ 0 → w.last ≡ 0 → Flags fs [] → Found l words 0 w fs
+pub found_none : (l : List Sent) (words : List ℕ) (fs : List Bool) (w : Reach) → w.place ≡ 0 → w.last ≡ 0 → Flags fs [] → Found l words words w fs
 unfolding past_last
-found_none l words fs w p q f = record { within = omega arith; flags = rw p f; rest = rw p refl; last = rw p q }
+found_none l words fs w p q f = record { within = omega arith; flags = rw p f; left = rw p refl; last = rw p q }
 
-module _ (l : List Sent) (words : List ℕ) (k : ℕ) (w : Reach) (fs : List ℕ) (d : Found l words k w fs) where
+module _ (l : List Sent) (words rest : List ℕ) (w : Reach) (fs : List Bool) (d : Found l words rest w fs) where
   abbrev past : List Bool
   past = take w.place (covered words l)
 
   length-done : length past ≡ w.place
   length-done = length-take-le w.place (covered words l) (rw length-covered d.within)
 
-  pub found_all : length words ≤ k + 1 → Flags fs (covered words l) × (w.last ≡ past_last (covered words l))
+  pub found_all : length rest ≤ 1 → Flags fs (covered words l) × (w.last ≡ past_last (covered words l))
   found_all h =
       let a : covered words l ≡ past ++ replicate (length (drop w.place l)) false =
-      sym (take-append-drop w.place (covered words l)) ∙ ap (λ (bs : List Bool). past ++ bs) (d.rest ∙ covered-end words k (drop w.place l) h) in
+      sym (take-append-drop w.place (covered words l)) ∙ ap (λ (bs : List Bool). past ++ bs) (d.left ∙ covered-short rest (drop w.place l) h) in
       let n = length (drop w.place l) in
       (rw a (flags-false fs past n d.flags), rw a (d.last ∙ sym (past-false past n)))
 
   -- one range more
-  module _ (start end : ℕ) (r : Reach) (gs : List ℕ) (lt : k + 1 < length words) (s : get_or words k 0 ≡ start) (e : get_or words (k + 1) 0 ≡ end)
+  module _ (start end : ℕ) (more : List ℕ) (r : Reach) (gs : List Bool) (e : rest ≡ start ∷ (end ∷ more))
       (x : Ranged (drop w.place l) start end w r fs gs) where
-    abbrev more : List Bool
-    more = replicate (before start (drop w.place l)) false ++ replicate (inside start end (drop w.place l)) true
+    abbrev new : List Bool
+    new = replicate (before start (drop w.place l)) false ++ replicate (inside start end (drop w.place l)) true
 
     abbrev still : List Bool
-    still = covered (drop (k + 2) words) (drop (before start (drop w.place l) + inside start end (drop w.place l)) (drop w.place l))
+    still = covered more (drop (before start (drop w.place l) + inside start end (drop w.place l)) (drop w.place l))
 
-    split : covered words l ≡ (past ++ more) ++ still
+    split : covered words l ≡ (past ++ new) ++ still
     split =
         sym (take-append-drop w.place (covered words l))
-        ∙ ap (λ (bs : List Bool). past ++ bs) (d.rest ∙ rw (s, e) at (covered-two words k (drop w.place l) lt))
-        ∙ sym (append_assoc past more still)
+        ∙ ap (λ (bs : List Bool). past ++ bs) (d.left ∙ rw e (covered-two start end more (drop w.place l)))
+        ∙ sym (append_assoc past new still)
 
-    length_more : length (past ++ more) ≡ r.place
+    length_more : length (past ++ new) ≡ r.place
     length_more = rw (length-append, length-append, length-replicate, length-replicate, length-done, x.place) refl
 
-    pub found-more : Found l words (k + 2) r gs
+    pub found-more : Found l words more r gs
     found-more =
-        let a : take r.place (covered words l) ≡ past ++ more = ap (take r.place) split ∙ take_at (past ++ more) still r.place length_more in
-        let b : drop r.place (covered words l) ≡ still = ap (drop r.place) split ∙ drop_at (past ++ more) still r.place length_more in
+        let a : take r.place (covered words l) ≡ past ++ new = ap (take r.place) split ∙ take_at (past ++ new) still r.place length_more in
+        let b : drop r.place (covered words l) ≡ still = ap (drop r.place) split ∙ drop_at (past ++ new) still r.place length_more in
         let c = range-within start end (drop w.place l) in
         let f : length (drop w.place l) ≡ length l - w.place = length-drop w.place l in
         let g = x.place in
@@ -343,7 +325,7 @@ module _ (l : List Sent) (words : List ℕ) (k : ℕ) (w : Reach) (fs : List ℕ
         record {
           within = omega arith;
           flags = rw a (x.flags past d.flags length-done);
-          rest = b ∙ rw (drop-drop, ← x.place) refl;
+          left = b ∙ rw (drop-drop, ← x.place) refl;
           last = rw (a, past-range past (before start (drop w.place l)) (inside start end (drop w.place l)), length-done, ← x.place, ← d.last) x.last;
         }
 
@@ -354,8 +336,8 @@ module _ (m : List ℕ) (n first count place start p : ℕ) (le : place ≤ coun
   range-place : p ≡ place_of start (left m n first count place)
   range-place = let f : min (count - place) capacity ≡ count - place = omega arith in e ∙ rw (f, records-mod m n (first + place) (count - place)) refl
 
-  pub range-near : place + p ≤ count
-  range-near =
+  pub range_near : place + p ≤ count
+  range_near =
       let a = place-within start (left m n first count place) in
       let b = length-records m n (first + place) (count - place) in
       let c = range-place in
@@ -363,12 +345,12 @@ module _ (m : List ℕ) (n first count place start p : ℕ) (le : place ≤ coun
 
   range-left : drop p (left m n first count place) ≡ left m n first count (place + p)
   range-left =
-      let a = range-near in
+      let a = range_near in
       let b : first + place + p ≡ first + (place + p) = omega arith in
       let c : count - place - p ≡ count - (place + p) = omega arith in
       records-drop m n (first + place) p (count - place) (omega arith) ∙ rw (b, c) refl
 
-  module _ (end to last : ℕ) (fs gs : List ℕ) (x : Walked (left m n first count (place + p)) end (place + p) to fs gs) where
+  module _ (end to last : ℕ) (fs gs : List Bool) (x : Walked (left m n first count (place + p)) end (place + p) to fs gs) where
     many : inside start end (left m n first count place) ≡ count_below end (left m n first count (place + p))
     many = rw (← range-place, range-left) refl
 
@@ -386,30 +368,36 @@ module _ (m : List ℕ) (n first count place start p : ℕ) (le : place ≤ coun
           last = q;
         }
 
-    pub ranged-none : to ≡ place + p → Ranged (left m n first count place) start end (record { place = place; last = last }) (record { place = to; last = last }) fs gs
-    ranged-none q = let a = x.to in let b = many in ranged last (sym (pick-zero (inside start end (left m n first count place)) last to (omega arith)))
+    pub ranged_none : to ≡ place + p → Ranged (left m n first count place) start end (record { place = place; last = last }) (record { place = to; last = last }) fs gs
+    ranged_none q = let a = x.to in let b = many in ranged last (sym (pick-zero (inside start end (left m n first count place)) last to (omega arith)))
 
-    pub ranged-some : (to ≡ place + p → ⊥) → Ranged (left m n first count place) start end (record { place = place; last = last }) (record { place = to; last = to }) fs gs
-    ranged-some q = ranged to (sym (pick_pos (inside start end (left m n first count place)) last to (some (count_below end (left m n first count (place + p))) x.to many)))
+    pub ranged_some : (to ≡ place + p → ⊥) → Ranged (left m n first count place) start end (record { place = place; last = last }) (record { place = to; last = to }) fs gs
+    ranged_some q = ranged to (sym (pick_pos (inside start end (left m n first count place)) last to (some (count_below end (left m n first count (place + p))) x.to many)))
       where
         some : (h : ℕ) → to ≡ place + p + h → inside start end (left m n first count place) ≡ h → 0 < inside start end (left m n first count place)
         some h a b = omega (arith, q)
 
 -- ---- all ranges in the memory
 
-module _ (m : List ℕ) (n first count : ℕ) {words : List ℕ} {k : ℕ} {w : Reach} {fs : List ℕ} (d : Found (records_of m n first count) words k w fs) where
-  pub found-near : w.place ≤ count
-  found-near = let a = length-records m n first count in let b = d.within in omega arith
+module _ (m : List ℕ) (n first count : ℕ) {words rest : List ℕ} {w : Reach} {fs : List Bool} (d : Found (records_of m n first count) words rest w fs) where
+  pub found_near : w.place ≤ count
+  found_near = let a = length-records m n first count in let b = d.within in omega arith
 
-  pub found-next : {r : Reach} {gs : List ℕ} → k + 1 < length words →
-      Ranged (left m n first count w.place) (get_or words k 0) (get_or words (k + 1) 0) w r fs gs → Found (records_of m n first count) words (k + 2) r gs
-  found-next {r} {gs} lt x =
-      found-more (records_of m n first count) words k w fs d (get_or words k 0) (get_or words (k + 1) 0) r gs lt refl refl
-      (rw (records-drop m n first w.place count found-near) x)
+  pub found_next : {r : Reach} {gs : List Bool} → 2 ≤ length rest → Ranged (left m n first count w.place) (get_or rest 0 0) (get_or rest 1 0) w r fs gs →
+      Found (records_of m n first count) words (take (length rest - 2) (drop 2 rest)) r gs
+  found_next {r} {gs} h x =
+      found-more (records_of m n first count) words rest w fs d (get_or rest 0 0) (get_or rest 1 0) (take (length rest - 2) (drop 2 rest)) r gs (two-words rest h)
+      (rw (records-drop m n first w.place count found_near) x)
 
-pub covers : (m : List ℕ) (n head count len : ℕ) (words : List ℕ) (k : ℕ) (w : Reach) (fs : List ℕ) → Found (records_of m n (head % capacity) count) words k w fs →
-    length words ≤ k + 1 → count ≡ min len capacity → Covers words (records_of m n head (min len capacity)) (record { flags = fs; last = w.last })
-covers m n head count len words k w fs d h e =
-    let a = found_all (records_of m n (head % capacity) count) words k w fs d h in
+-- none is flagged from the place after the last one on
+pub found_past : (l : List Sent) (words rest : List ℕ) (w : Reach) (fs : List Bool) → Found l words rest w fs → length rest ≤ 1 →
+    (i : ℕ) → w.last ≤ i → flagged fs i ≡ false
+found_past l words rest w fs d h i le =
+    let a = found_all l words rest w fs d h in a.0.held i ∙ past_off (covered words l) i (rw a.1 at le)
+
+pub covers : (m : List ℕ) (n head count len : ℕ) (words rest : List ℕ) (w : Reach) (fs : List Bool) → Found (records_of m n (head % capacity) count) words rest w fs →
+    length rest ≤ 1 → count ≡ min len capacity → (r : Covered) → r.flags ≡ fs → r.last ≡ w.last → Covers words (records_of m n head (min len capacity)) r
+covers m n head count len words rest w fs d h e r p q =
+    let a = found_all (records_of m n (head % capacity) count) words rest w fs d h in
     let b : records_of m n head (min len capacity) ≡ records_of m n (head % capacity) count = rw (← e) (sym (records-mod m n head count)) in
-    rw b (record { flags = a.0; last = a.1 })
+    rw b (record { flags = rw p a.0; last = rw q a.1 })

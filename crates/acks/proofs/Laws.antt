@@ -1,21 +1,20 @@
 -- What a caller learns of step 1: the flags as a list, the sums' other fields, the last newly acked record, and a word's distance. Assumes nothing.
-use mathlib.Core.Path.{◌≡◌, refl, ap, sym, ◌∙◌}
+use mathlib.Core.Path.{◌≡◌, refl, ap, sym, path_j, ◌∙◌}
 use mathlib.Core.Bool.{Bool, true, false, cond, ◌||◌}
+use denote.Struct.Props.{props}
 use mathlib.Core.List.{List, [], ◌∷◌, ◌++◌}
 use mathlib.Core.Logic.{◌⊎◌, inl, inr, ⊎_elim}
 use Prim.Native.Nat.{ℕ, zero, suc, ◌+◌, ◌-◌, ◌≤◌, ◌<◌, min}
 use native.Mathlib.Nat.{zero-add, suc-add}
 use native.Mathlib.Omega.{arith}
-use lib.Dec.{eqb}
 use lib.ListN.{length, get_or, length-append}
 use lib.Seq.{ext_get_or}
+use Rattle.arith.specs.Refusals.{then}
 use Rattle.arith.specs.declared.time.Moment.{Moment}
 use Rattle.arith.specs.declared.time.Span.{Span}
 use Rattle.marks.specs.Marks.{flagged, held_at, acked_at, is_newly, newly_of, acked_all, handles_of}
-use Rattle.marks.specs.Survey.{weighed, on_fits, survey}
+use Rattle.marks.specs.Survey.{weighed, survey}
 use Rattle.marks.specs.declared.Covered.{Covered}
-use Rattle.marks.specs.declared.Surveyed.{Surveyed}
-use Rattle.marks.specs.declared.Surveyed.TheVariants.{Fits, Refused}
 use Rattle.marks.specs.declared.Tally.{Tally}
 use Rattle.marks.proofs.Rings.{held-records, acked-ring, newly-past}
 use Rattle.marks.proofs.Split.{met_by, finish, split}
@@ -23,29 +22,21 @@ use Rattle.marks.proofs.SplitLoss.{handles-cons}
 use Rattle.model.specs.Ack.{Met, meet_all, reordered_by, reordered}
 use Rattle.model.specs.Connection.{Connection}
 use Rattle.model.specs.Events.{any_eliciting, acked_some, acked_by}
-use Rattle.model.specs.Numbers.{accepted, refused, capacity}
+use Rattle.model.specs.Numbers.{capacity}
 use Rattle.model.specs.Sent.{covered}
 use Rattle.model.specs.declared.HandshakeStatus.{HandshakeStatus}
-use Rattle.model.specs.declared.Number.{Number}
-use Rattle.model.specs.declared.Number.TheVariants.{Missing, Is}
-use Rattle.model.specs.declared.Refusal.{Refusal}
+use Rattle.arith.specs.declared.refusal.Refusal.{Refusal}
 use Rattle.model.specs.declared.Reordering.{Reordering}
 use Rattle.model.specs.declared.Sent.{Sent}
-use Rattle.records.specs.View.{bit, ring, records_of}
+use Rattle.records.specs.View.{ring, records_of}
 use Rattle.records.proofs.Laws.{length-records}
-use Rattle.acks.specs.Cover.{Flags, Covers}
+use Rattle.acks.specs.Cover.{Covers}
 use Rattle.acks.specs.Fitted.{fit_number, fitted, fresh}
-use Rattle.acks.proofs.Flags.{length-covered, past_off}
+use Rattle.acks.proofs.Flags.{length-covered}
 use Rattle.acks.proofs.Fitting.{Took, Kept, One, one, Back, back, back-refused}
+use Rattle.std.specs.Prelude.{Result, Ok, Err, Option, Some, None}
 
 -- ---- the flags
-
-bit-one : (b : Bool) → eqb (bit b) 1 ≡ b
-bit-one true = refl
-bit-one false = refl
-
-pub flagged-is : (fs : List ℕ) (bs : List Bool) → Flags fs bs → (i : ℕ) → flagged fs i ≡ get_or bs i false
-flagged-is fs bs f i = rw (f.held i) (bit-one (get_or bs i false))
 
 ring-list : (f : ℕ → Bool) (bs : List Bool) (a : ℕ) → ((i : ℕ) → f (a + i) ≡ get_or bs i false) → ring f a (length bs) ≡ bs
 unfolding ring
@@ -60,21 +51,28 @@ module _ (words : List ℕ) (l : List Sent) (r : Covered) (c : Covers words l r)
   pub covers-ring : ring (flagged r.flags) 0 (length l) ≡ covered words l
   covers-ring =
       rw (← length-covered words l)
-      (ring-list (flagged r.flags) (covered words l) 0 (λ i. ap (flagged r.flags) (zero-add i) ∙ flagged-is r.flags (covered words l) c.flags i))
-
-  -- none is flagged from the place after the last one on
-  pub covers-off : (i : ℕ) → r.last ≤ i → flagged r.flags i ≡ false
-  covers-off i le = flagged-is r.flags (covered words l) c.flags i ∙ past_off (covered words l) i (rw c.last at le)
+      (ring-list (flagged r.flags) (covered words l) 0 (λ i. ap (flagged r.flags) (zero-add i) ∙ c.flags.held i))
 
 -- any two answers that the claim allows are equal
 pub one-cover : (words : List ℕ) (l : List Sent) (a b : Covered) → Covers words l a → Covers words l b → a ≡ b
 one-cover words l a b c d =
     let x : a.flags ≡ b.flags =
-    ext_get_or 0 a.flags b.flags (c.flags.size ∙ sym d.flags.size) (λ i lt. c.flags.held i ∙ sym (d.flags.held i)) in
-    same a.flags b.flags a.last b.last x (c.last ∙ sym d.last)
+    ext_get_or false a.flags b.flags (c.flags.size ∙ sym d.flags.size) (λ i lt. c.flags.held i ∙ sym (d.flags.held i)) in
+    same a.flags b.flags a.last b.last x (c.last ∙ sym d.last) a.past b.past
   where
-    same : (x y : List ℕ) (p q : ℕ) → x ≡ y → p ≡ q → ◌≡◌ {A = Covered} (record { flags = x; last = p }) (record { flags = y; last = q })
-    same x y p q e f = cc
+    Past : List Bool → ℕ → Type 0
+    Past fs k = (i : ℕ) → k ≤ i → flagged fs i ≡ false
+
+    past-prop : (fs : List Bool) (k : ℕ) → IsProp (Past fs k)
+    past-prop fs k = hlevel props
+
+    made : (fs : List Bool) (k : ℕ) → Past fs k → Covered
+    made fs k u = record { flags = fs; last = k; past = u }
+
+    same : (x y : List Bool) (p q : ℕ) → x ≡ y → p ≡ q → (u : Past x p) (v : Past y q) → made x p u ≡ made y q v
+    same x y p q e f u =
+        path_j (λ y' _. (v : Past y' q) → made x p u ≡ made y' q v)
+        (path_j (λ q' _. (v : Past x q') → made x p u ≡ made x q' v) (λ v. ap (made x p) (past-prop x p u v)) f) e
 
 -- ---- the sums' other fields
 
@@ -99,9 +97,9 @@ or-false : (a : Bool) → a ≡ (a || false)
 or-false true = refl
 or-false false = refl
 
-on_fits_lem : {A : Type 0} (x : Surveyed) (Z : Tally → Surveyed) {u : Tally} → Fits u ≡ on_fits x Z → ((v : Tally) → Fits v ≡ x → Fits u ≡ Z v → A) → A
-on_fits_lem (Fits v) Z e k = k v refl e
-on_fits_lem (Refused n) Z e k = absurd (let z : ◌≡◌ {A = ℕ} 0 1 = cc in let w : ⊥ = omega arith in w)
+then-ok : {A : Type 0} (x : Result Tally Refusal) (Z : Tally → Result Tally Refusal) {u : Tally} → Ok u ≡ then x Z → ((v : Tally) → Ok v ≡ x → Ok u ≡ Z v → A) → A
+then-ok (Ok v) Z e k = k v refl e
+then-ok (Err n) Z e k = absurd (let z : ◌≡◌ {A = ℕ} 0 1 = cc in let w : ⊥ = omega arith in w)
 
 module _ (f : ℕ → Bool) (g : ℕ → Sent) (largest : ℕ) where
   -- the first record, and the others
@@ -145,18 +143,18 @@ module _ (f : ℕ → Bool) (g : ℕ → Sent) (largest : ℕ) where
     first false o = first-kept (o.kept refl)
 
   -- c places from place i on
-  pub tallied : (i c : ℕ) (t : Tally) {u : Tally} → Fits u ≡ survey largest i (ring f i c) (ring g i c) t → Tallied g (newly_of (ring f i c) (ring g i c)) t u
+  pub tallied : (i c : ℕ) (t : Tally) {u : Tally} → Ok u ≡ survey largest i (ring f i c) (ring g i c) t → Tallied g (newly_of (ring f i c) (ring g i c)) t u
   unfolding survey ring newly_of handles_of any_eliciting
   tallied i zero t {u} e =
       let z : u ≡ t = cc in
       rw z
       (record { newly = omega arith; queued = omega arith; room = λ r. r; eliciting = or-false t.eliciting; last = inl (refl, refl) })
   tallied i (suc c) t {u} e =
-      on_fits_lem (weighed (f i) largest i (g i) t) (survey largest (i + 1) (ring f (i + 1) c) (ring g (i + 1) c)) e
+      then-ok (weighed (f i) largest i (g i) t) (survey largest (i + 1) (ring f (i + 1) c) (ring g (i + 1) c)) e
       (λ v x y. first i t v u (newly_of (ring f (i + 1) c) (ring g (i + 1) c)) (tallied (i + 1) c v y) (is_newly (f i) (g i)) (one largest i (g i) t (f i) x))
 
   -- the same as words hold it
-  pub tallied-fit : (i c : ℕ) (t : Tally) {u : Tally} → Fits u ≡ fitted (survey largest i (ring f i c) (ring g i c) t) → Tallied g (newly_of (ring f i c) (ring g i c)) t u
+  pub tallied-fit : (i c : ℕ) (t : Tally) {u : Tally} → Ok u ≡ fitted (survey largest i (ring f i c) (ring g i c) t) → Tallied g (newly_of (ring f i c) (ring g i c)) t u
   tallied-fit i c t {u} e =
       let k = back (survey largest i (ring f i c) (ring g i c) t) e in
       let d = tallied i c t k.fits in
@@ -189,17 +187,17 @@ acked-last (x ∷ (y ∷ xs)) r now n delay status limited records m o c = acked
 -- ---- a word's distance
 
 -- reordering learns the same of it
-pub reordered-fit : (d : Number) (spurious : ℕ) (o : Reordering) → reordered (fit_number d) spurious o ≡ reordered d spurious o
+pub reordered-fit : (d : Option ℕ) (spurious : ℕ) (o : Reordering) → reordered (fit_number d) spurious o ≡ reordered d spurious o
 unfolding reordered reordered_by
-reordered-fit Missing spurious o = refl
-reordered-fit (Is d) spurious o = let e : min (min d 18446744073709551615) 20 ≡ min d 20 = omega arith in rw e refl
+reordered-fit None spurious o = refl
+reordered-fit (Some d) spurious o = let e : min (min d 18446744073709551615) 20 ≡ min d 20 = omega arith in rw e refl
 
 -- where the largest is below 2^64-1, it is the distance itself
 module _ (largest : ℕ) (low : largest < 18446744073709551615) where
-  short-one : (r : Sent) (d e : Number) → fit_number d ≡ d → (e ≡ d) ⊎ (e ≡ Is (largest - r.number + 1)) → fit_number e ≡ e
+  short-one : (r : Sent) (d e : Option ℕ) → fit_number d ≡ d → (e ≡ d) ⊎ (e ≡ Some (largest - r.number + 1)) → fit_number e ≡ e
   short-one r d e s p = ⊎_elim
       (λ (x : e ≡ d). rw x s)
-      (λ (x : e ≡ Is (largest - r.number + 1)). let y : min (largest - r.number + 1) 18446744073709551615 ≡ largest - r.number + 1 = omega arith in rw (x, y) refl)
+      (λ (x : e ≡ Some (largest - r.number + 1)). let y : min (largest - r.number + 1) 18446744073709551615 ≡ largest - r.number + 1 = omega arith in rw (x, y) refl)
       p
 
   pub survey-short : (i : ℕ) (bs : List Bool) (l : List Sent) (t : Tally) → fit_number t.distance ≡ t.distance → fitted (survey largest i bs l t) ≡ survey largest i bs l t
@@ -210,22 +208,22 @@ module _ (largest : ℕ) (low : largest < 18446744073709551615) where
       go (survey largest (i + 1) bs l) (survey-short (i + 1) bs l) (weighed b largest i r t)
       (λ u e. short-one r t.distance u.distance s (one largest i r t b e).distance)
     where
-      go : (Z : Tally → Surveyed) → ((u : Tally) → fit_number u.distance ≡ u.distance → fitted (Z u) ≡ Z u) → (x : Surveyed) →
-          ((u : Tally) → Fits u ≡ x → fit_number u.distance ≡ u.distance) → fitted (on_fits x Z) ≡ on_fits x Z
-      go Z ih (Fits u) p = ih u (p u refl)
-      go Z ih (Refused n) p = refl
+      go : (Z : Tally → Result Tally Refusal) → ((u : Tally) → fit_number u.distance ≡ u.distance → fitted (Z u) ≡ Z u) → (x : Result Tally Refusal) →
+          ((u : Tally) → Ok u ≡ x → fit_number u.distance ≡ u.distance) → fitted (then x Z) ≡ then x Z
+      go Z ih (Ok u) p = ih u (p u refl)
+      go Z ih (Err n) p = refl
 
   pub survey-whole : (bs : List Bool) (l : List Sent) (queued in_flight : ℕ) → fitted (survey largest 0 bs l (fresh queued in_flight)) ≡ survey largest 0 bs l (fresh queued in_flight)
   survey-whole bs l queued in_flight = survey-short 0 bs l (fresh queued in_flight) refl
 
 -- ---- no range holds any record from place k on
 
-same-on : (x : Surveyed) (Y Z : Tally → Surveyed) → ((u : Tally) → Y u ≡ Z u) → on_fits x Y ≡ on_fits x Z
-same-on (Fits u) Y Z p = p u
-same-on (Refused n) Y Z p = refl
+same-on : (x : Result Tally Refusal) (Y Z : Tally → Result Tally Refusal) → ((u : Tally) → Y u ≡ Z u) → then x Y ≡ then x Z
+same-on (Ok u) Y Z p = p u
+same-on (Err n) Y Z p = refl
 
 module _ (f : ℕ → Bool) (g : ℕ → Sent) (largest : ℕ) where
-  pub survey-none : (a c : ℕ) (t : Tally) → ((i : ℕ) → a ≤ i → i < a + c → f i ≡ false) → survey largest a (ring f a c) (ring g a c) t ≡ Fits t
+  pub survey-none : (a c : ℕ) (t : Tally) → ((i : ℕ) → a ≤ i → i < a + c → f i ≡ false) → survey largest a (ring f a c) (ring g a c) t ≡ Ok t
   unfolding survey ring weighed
   survey-none a zero t off = refl
   survey-none a (suc c) t off =
@@ -256,7 +254,7 @@ module _ (words m : List ℕ) (n head c : ℕ) (r : Covered) (d : Covers words (
   cover-ring = rw (length-records m n head c) at (covers-ring words (records_of m n head c) r d)
 
   off : (i : ℕ) → min c r.last ≤ i → i < c → flagged r.flags i ≡ false
-  off i le lt = covers-off words (records_of m n head c) r d i (omega arith)
+  off i le lt = r.past i (omega arith)
 
   -- who is newly acked
   pub newly-covered :
@@ -279,9 +277,9 @@ module _ (words m : List ℕ) (n head c : ℕ) (r : Covered) (d : Covers words (
   -- step 1 itself, from what `meet_all` answers: q is the acked queue
   module _ (largest : ℕ) (q : List ℕ) (in_flight : ℕ) where
     abbrev pub unmet : Met
-    unmet = record { queue = q; newly = []; acked_bytes = 0; in_flight = in_flight; spurious = 0; distance = Missing; spurious_in_flight = false }
+    unmet = record { queue = q; newly = []; acked_bytes = 0; in_flight = in_flight; spurious = 0; distance = None; spurious_in_flight = false }
 
-    abbrev pub surveyed : Surveyed
+    abbrev pub surveyed : Result Tally Refusal
     surveyed = survey largest 0 (ring (flagged r.flags) 0 (min c r.last)) (ring (held_at m n head) 0 (min c r.last)) (fresh (length q) in_flight)
 
     abbrev pub newly_acked : List Sent
@@ -296,10 +294,10 @@ module _ (words m : List ℕ) (n head c : ℕ) (r : Covered) (d : Covers words (
 
     pub step_fits : {u : Tally} (b : Back surveyed u) →
         meet_all largest (covered words (records_of m n head c)) (records_of m n head c) unmet
-        ≡ accepted (record { records = ring (acked_at m n head r.flags) 0 c; met = met_by b.tally (q ++ handles_of newly_acked) newly_acked })
+        ≡ Ok (record { records = ring (acked_at m n head r.flags) 0 c; met = met_by b.tally (q ++ handles_of newly_acked) newly_acked })
     unfolding finish
-    step_fits b = step-one ∙ ap (λ (x : Surveyed). finish x (ring (acked_at m n head r.flags) 0 c) (q ++ handles_of newly_acked) newly_acked) (sym b.fits)
+    step_fits b = step-one ∙ ap (λ (x : Result Tally Refusal). finish x (ring (acked_at m n head r.flags) 0 c) (q ++ handles_of newly_acked) newly_acked) (sym b.fits)
 
-    pub step-refused : {why : Refusal} → Refused why ≡ fitted surveyed → meet_all largest (covered words (records_of m n head c)) (records_of m n head c) unmet ≡ refused why
+    pub step-refused : {why : Refusal} → Err why ≡ fitted surveyed → meet_all largest (covered words (records_of m n head c)) (records_of m n head c) unmet ≡ Err why
     unfolding finish
-    step-refused e = step-one ∙ ap (λ (x : Surveyed). finish x (ring (acked_at m n head r.flags) 0 c) (q ++ handles_of newly_acked) newly_acked) (sym (back-refused surveyed e))
+    step-refused e = step-one ∙ ap (λ (x : Result Tally Refusal). finish x (ring (acked_at m n head r.flags) 0 c) (q ++ handles_of newly_acked) newly_acked) (sym (back-refused surveyed e))

@@ -12,9 +12,9 @@ unfoldable pub past_last : List Bool → ℕ
 past_last [] = 0
 past_last (b ∷ bs) = cond (eqb (past_last bs) 0) (bit b) (suc (past_last bs))
 
--- a number for each place: 1 where the list is true, 0 where it is not and past its end
-pub record Flags (fs : List ℕ) (bs : List Bool) : Type 0 where
-  pub held : (i : ℕ) → get_or fs i 0 ≡ bit (get_or bs i false)
+-- for each place: true where the list is, false where it is not and past its end
+pub record Flags (fs : List Bool) (bs : List Bool) : Type 0 where
+  pub held : (i : ℕ) → get_or fs i false ≡ get_or bs i false
   pub size : length fs ≡ capacity
 
 -- which of the records the ranges hold
@@ -25,12 +25,12 @@ pub record Covers (words : List ℕ) (l : List Sent) (r : Covered) : Type 0 wher
 -- ---- for the private steps
 
 -- the records that the walk of a range adds, from a place on
-pub record Walked (l : List Sent) (end place r : ℕ) (fs gs : List ℕ) : Type 0 where
+pub record Walked (l : List Sent) (end place r : ℕ) (fs gs : List Bool) : Type 0 where
   pub to : r ≡ place + count_below end l
   pub flags : (bs : List Bool) → Flags fs bs → length bs ≡ place → Flags gs (bs ++ replicate (count_below end l) true)
 
 -- what a range adds: `l` are the records left, from the place that was reached on
-pub record Ranged (l : List Sent) (start end : ℕ) (w r : Reach) (fs gs : List ℕ) : Type 0 where
+pub record Ranged (l : List Sent) (start end : ℕ) (w r : Reach) (fs gs : List Bool) : Type 0 where
   pub place : r.place ≡ w.place + (place_of start l + count_below end (drop (place_of start l) l))
   pub flags : (bs : List Bool) → Flags fs bs → length bs ≡ w.place →
       Flags gs (bs ++ (replicate (place_of start l) false ++ replicate (count_below end (drop (place_of start l) l)) true))

@@ -10,7 +10,7 @@ abbrev pub places_of : ℕ → ℕ → ℕ
 places_of len last = min (min len capacity) last
 
 -- for each of the first k places, whether it is flagged
-abbrev pub flags_to : List ℕ → ℕ → List Bool
+abbrev pub flags_to : List Bool → ℕ → List Bool
 flags_to fs k = ring (flagged fs) 0 k
 
 -- and its record

@@ -5,7 +5,7 @@ ghost use Rattle.records.specs.View.{records_of};
 ghost use Rattle.acks.specs.Cover.{Covers, Walked, Ranged};
 
 use marks::Covered;
-use records::memory::{CAPACITY, Words, held, number_at};
+use records::memory::{CAPACITY, Word, Words, held, word_at};
 use records::search::place_of;
 
 // How far the ranges so far reach: the place of the first record left, and the place after the last one held.
@@ -23,23 +23,22 @@ fn walk(
     count: usize,
     end: u64,
     from: usize,
-    flags: &mut [u8; 256],
+    flags: &mut [bool; 256],
 ) -> usize
     requires { (first ≤ capacity) × (from ≤ count) × (count ≤ capacity) }
     ensures { Walked (records_of m.now n (first + from) (count - from)) end from result flags.old flags.new }
 {
-    let mut i = from;
-    while i < count {
-        if end <= number_at(m, n, first + i) {
+    for i in from..count {
+        if end <= word_at(m, n, first + i, Word::Number) {
             return i;
         }
-        flags[i] = 1;
-        i = i + 1;
+        flags[i] = true;
     }
-    i
+    count
 }
 
 // One range among the records left.
+#[tactic(auto, using(crate::proofs::Flags::range_near))]
 fn cover_range(
     m: &Words,
     n: u64,
@@ -48,39 +47,35 @@ fn cover_range(
     start: u64,
     end: u64,
     w: Reach,
-    flags: &mut [u8; 256],
+    flags: &mut [bool; 256],
 ) -> Reach
     requires { (first ≤ capacity) × (w.place ≤ count) × (count ≤ capacity) }
     ensures { Ranged (records_of m.now n (first + w.place) (count - w.place)) start end w result flags.old flags.new }
 {
     let from = w.place + place_of(m, n, first + w.place, count - w.place, start);
     let to = walk(m, n, first, count, end, from, flags);
-    if to == from {
-        Reach {
-            place: to,
-            last: w.last,
-        }
-    } else {
-        Reach {
-            place: to,
-            last: to,
-        }
+    Reach {
+        place: to,
+        last: if to == from { w.last } else { to },
     }
 }
 
 // For each record of space n whether a range holds it, and the place after the last one held. 000 on_ack_received
+#[tactic(auto, using(crate::proofs::Flags::found_near))]
 pub fn cover(m: &Words, n: u64, head: usize, len: usize, words: &[u64]) -> Covered
     ensures { Covers words.now (records_of m.now n head (min len capacity)) result }
 {
     let first = head % CAPACITY;
     let count = held(len);
-    let mut flags = [0u8; 256];
+    let mut flags = [false; 256];
     let mut w = Reach { place: 0, last: 0 };
-    let mut k: usize = 0;
-    while k + 1 < words.len() {
-        w = cover_range(m, n, first, count, words[k], words[k + 1], w, &mut flags);
-        k = k + 2;
+    let mut rest = words;
+    while let [start, end, more @ ..] = rest {
+        w = cover_range(m, n, first, count, *start, *end, w, &mut flags);
+        rest = more;
     }
-    let last = w.last;
-    Covered { flags, last }
+    Covered {
+        flags,
+        last: w.last,
+    }
 }

@@ -13,6 +13,5 @@ pub mod meet;
 pub fn places(len: usize, last: usize) -> usize
     ensures { result ≡ places_of len last }
 {
-    let count = records::memory::held(len);
-    if count <= last { count } else { last }
+    records::memory::held(len).min(last)
 }

@@ -10,22 +10,23 @@ use Rattle.arith.proofs.root.Limbs.{widest}
 use Rattle.arith.proofs.root.Units.{shifted, bit-by-bit}
 use Rattle.arith.proofs.root.Wrap.{argument, is-largest}
 use Rattle.arith.specs.RootOf.{whole_from, root_bits, root_of}
-use Rattle.arith.specs.declared.root.Root.{Root}
-use Rattle.arith.specs.declared.root.Root.TheVariants.{Is, Refused}
+use Rattle.std.specs.Prelude.{Result, Ok, Err}
+use Rattle.arith.specs.declared.refusal.Refusal.{Refusal}
+use Rattle.arith.specs.declared.refusal.Refusal.TheVariants.{Domain}
 
-pub zero-answer : (x : Float) → eq x nought ≡ true → Answers x (Is nought)
+pub zero-answer : (x : Float) → eq x nought ≡ true → Answers x (Ok nought)
 unfolding Answers Case
 zero-answer x h = rw h refl
 
-pub root_answer : (x r : Float) → eq x nought ≡ false → le least x ≡ true → le x greatest ≡ true → Largest x r → Answers x (Is r)
+pub root_answer : (x r : Float) → eq x nought ≡ false → le least x ≡ true → le x greatest ≡ true → Largest x r → Answers x (Ok r)
 unfolding Answers Case
 root_answer x r z l g h = rw (z, l, g) (r, refl, h)
 
-pub low-answer : (x : Float) → eq x nought ≡ false → le least x ≡ false → Answers x (Refused 2)
+pub low-answer : (x : Float) → eq x nought ≡ false → le least x ≡ false → Answers x (Err Domain)
 unfolding Answers Case
 low-answer x z l = rw (z, l) refl
 
-pub high-answer : (x : Float) → eq x nought ≡ false → le least x ≡ true → le x greatest ≡ false → Answers x (Refused 2)
+pub high-answer : (x : Float) → eq x nought ≡ false → le least x ≡ true → le x greatest ≡ false → Answers x (Err Domain)
 unfolding Answers Case
 high-answer x z l g = rw (z, l, g) refl
 
@@ -82,13 +83,13 @@ one-root x r s l g h k =
     both_ways r s h.held k.held (root-positive x r l g h) (root-positive x s l g k) (k.most r h.held h.under) (h.most s k.held k.under)
 
 -- any two answers that the contract allows are equal
-pub one_answer : (x : Float) (o p : Root) → Answers x o → Answers x p → o ≡ p
+pub one_answer : (x : Float) (o p : Result Float Refusal) → Answers x o → Answers x p → o ≡ p
 unfolding Answers Case
 one_answer x o p = go (eq x nought) (le least x) (le x greatest) (λ t. t) (λ t. t)
   where
     go : (z a b : Bool) → (T a → T (le least x)) → (T b → T (le x greatest)) → Case z a b x o → Case z a b x p → o ≡ p
     go true a b f g h k = h ∙ sym k
-    go false true true f g h k = h.1 ∙ ap Is (one-root x h.0 k.0 (f tt) (g tt) h.2 k.2) ∙ sym k.1
+    go false true true f g h k = h.1 ∙ ap Ok (one-root x h.0 k.0 (f tt) (g tt) h.2 k.2) ∙ sym k.1
     go false true false f g h k = h ∙ sym k
     go false false b f g h k = h ∙ sym k
 
@@ -120,34 +121,34 @@ function-answers x F = go (eq x nought) (le least x) (le x greatest) (λ t. t) (
     y : Float
     y = of_bits binary64 (root_bits (to_bits binary64 x))
 
-    go : (z a b : Bool) → (T a → T (le least x)) → (T b → T (le x greatest)) → Case z a b x (cond z (Is nought) (cond a (cond b (Is y) (Refused 2)) (Refused 2)))
+    go : (z a b : Bool) → (T a → T (le least x)) → (T b → T (le x greatest)) → Case z a b x (cond z (Ok nought) (cond a (cond b (Ok y) (Err Domain)) (Err Domain)))
     go true a b f g = refl
     go false true true f g = (y, refl, computed x F (f tt) (g tt))
     go false true false f g = refl
     go false false b f g = refl
 
 -- what the code shows at each of its returns
-pub rooted : (x : Float) (o : Root) → T (fits binary64 x) → Answers x o → Rooted x o
+pub rooted : (x : Float) (o : Result Float Refusal) → T (fits binary64 x) → Answers x o → Rooted x o
 rooted x o F h = record { given = F; right = h }
 
 -- ---- for callers
 -- the claim allows one answer, which is the function's value
-pub root_is : {x : Float} {o : Root} → Rooted x o → o ≡ root_of x
+pub root_is : {x : Float} {o : (Result Float Refusal)} → Rooted x o → o ≡ root_of x
 root_is {x} {o} h = one_answer x o (root_of x) h.right (function-answers x h.given)
 
 -- any two answers that the claim allows are equal
-pub one-rooted : {x : Float} {o p : Root} → Rooted x o → Rooted x p → o ≡ p
+pub one-rooted : {x : Float} {o p : (Result Float Refusal)} → Rooted x o → Rooted x p → o ≡ p
 one-rooted {x} {o} {p} h k = one_answer x o p h.right k.right
 
 -- a refusal is refusal 2: for a caller that drops the number
-pub only_two : (x : Float) (n : ℕ) → root_of x ≡ Refused n → n ≡ 2
+pub only_domain : (x : Float) (n : Refusal) → root_of x ≡ Err n → n ≡ Domain
 unfolding root_of
-only_two x n = go (eq x nought) (le least x) (le x greatest)
+only_domain x n = go (eq x nought) (le least x) (le x greatest)
   where
     y : Float
     y = of_bits binary64 (root_bits (to_bits binary64 x))
 
-    go : (z a b : Bool) → cond z (Is nought) (cond a (cond b (Is y) (Refused 2)) (Refused 2)) ≡ Refused n → n ≡ 2
+    go : (z a b : Bool) → cond z (Ok nought) (cond a (cond b (Ok y) (Err Domain)) (Err Domain)) ≡ Err n → n ≡ Domain
     go true a b e = cc
     go false true true e = cc
     go false true false e = cc

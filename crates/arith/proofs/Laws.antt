@@ -9,84 +9,100 @@ use Rattle.arith.specs.Whole.{limit, within, sum_of, times_of}
 use Rattle.arith.specs.Time.{span, moment, as_span, as_moment, span_sum_of, scaled_of, later_of}
 use Rattle.arith.specs.Round.{Small, nearest, product_of, numerator_of, denominator_of, truncated_of}
 use Rattle.arith.specs.declared.time.Span.{Span}
-use Rattle.arith.specs.declared.time.SpanSum.TheVariants.{SpanOf, TooLong}
 use Rattle.arith.specs.declared.time.Moment.{Moment}
-use Rattle.arith.specs.declared.time.MomentSum.TheVariants.{MomentOf, TooLate}
-use Rattle.arith.specs.declared.time.Sum.{Sum}
-use Rattle.arith.specs.declared.time.Sum.TheVariants.{Fine, Over}
 use Rattle.arith.specs.declared.round.TimeThreshold.{TimeThreshold}
+use Rattle.std.specs.Prelude.{Result, Ok, Err}
+use Rattle.arith.specs.declared.refusal.Refusal.{Refusal}
+use Rattle.arith.specs.declared.refusal.Refusal.TheVariants.{TooLarge}
 
 apart : ◌≡◌ {A = ℕ} 0 1 → ⊥
 apart z = omega arith
 
 -- ---- up to 2^53-1, or past it
-pub within-fine : (n : ℕ) → n ≤ limit → within n ≡ Fine n
+pub within-fine : (n : ℕ) → n ≤ limit → within n ≡ Ok n
 unfolding within
 within-fine n h = rw le-leb
 
-pub within-over : (n : ℕ) → limit < n → within n ≡ Over
+pub within-over : (n : ℕ) → limit < n → within n ≡ Err TooLarge
 unfolding within
 within-over n h = rw lt-leb
 
 -- what is fine is the number itself, which is small
-pub fine-is : (n : ℕ) {m : ℕ} → within n ≡ Fine m → m ≡ n
+pub fine-is : (n : ℕ) {m : ℕ} → within n ≡ Ok m → m ≡ n
 unfolding within
 fine-is n {m} = go (leb n limit)
   where
-    go : (t : Bool) → cond t (Fine n) Over ≡ Fine m → m ≡ n
+    go : (t : Bool) → cond t (Ok n) (Err TooLarge) ≡ Ok m → m ≡ n
     go true e = cc
     go false e = cc
 
-pub fine-small : (n : ℕ) {m : ℕ} → within n ≡ Fine m → m ≤ limit
+pub fine-small : (n : ℕ) {m : ℕ} → within n ≡ Ok m → m ≤ limit
 unfolding within
 fine-small n {m} = go (leb n limit) (leb→le n limit)
   where
-    go : (t : Bool) → (T t → n ≤ limit) → cond t (Fine n) Over ≡ Fine m → m ≤ limit
+    go : (t : Bool) → (T t → n ≤ limit) → cond t (Ok n) (Err TooLarge) ≡ Ok m → m ≤ limit
     go true f e = let z : n ≡ m = cc in subst (λ (k : ℕ). k ≤ limit) z (f tt)
     go false f e = let z : ◌≡◌ {A = ℕ} 0 1 = cc in absurd (apart z)
 
-pub over-large : (n : ℕ) → within n ≡ Over → limit < n
+pub over-large : (n : ℕ) → within n ≡ Err TooLarge → limit < n
 unfolding within
 over-large n = go (leb n limit) (nleb→lt n limit)
   where
-    go : (t : Bool) → (T (not t) → limit < n) → cond t (Fine n) Over ≡ Over → limit < n
+    go : (t : Bool) → (T (not t) → limit < n) → cond t (Ok n) (Err TooLarge) ≡ Err TooLarge → limit < n
     go true f e = let z : ◌≡◌ {A = ℕ} 0 1 = cc in absurd (apart z)
     go false f e = f tt
 
 -- ---- sums and products of whole numbers
-pub sum-fine : (a b : ℕ) → a + b ≤ limit → sum_of a b ≡ Fine (a + b)
+-- past the limit there is one refusal
+pub over-only : (n : ℕ) {why : Refusal} → within n ≡ Err why → why ≡ TooLarge
+unfolding within
+over-only n {why} = go (leb n limit)
+  where
+    go : (t : Bool) → cond t (Ok n) (Err TooLarge) ≡ Err why → why ≡ TooLarge
+    go true e = cc
+    go false e = cc
+
+pub sum-fine : (a b : ℕ) → a + b ≤ limit → sum_of a b ≡ Ok (a + b)
 unfolding sum_of
 sum-fine a b h = within-fine (a + b) h
 
-pub sum_over : (a b : ℕ) → limit < a + b → sum_of a b ≡ Over
+pub sum_over : (a b : ℕ) → limit < a + b → sum_of a b ≡ Err TooLarge
 unfolding sum_of
 sum_over a b h = within-over (a + b) h
 
-pub sum_is : (a b : ℕ) {n : ℕ} → sum_of a b ≡ Fine n → (n ≡ a + b) × (n ≤ limit)
+pub sum_is : (a b : ℕ) {n : ℕ} → sum_of a b ≡ Ok n → (n ≡ a + b) × (n ≤ limit)
 unfolding sum_of
 sum_is a b e = (fine-is (a + b) e, fine-small (a + b) e)
 
-pub sum-large : (a b : ℕ) → sum_of a b ≡ Over → limit < a + b
+pub sum-large : (a b : ℕ) → sum_of a b ≡ Err TooLarge → limit < a + b
 unfolding sum_of
 sum-large a b e = over-large (a + b) e
 
-pub times-fine : (a b : ℕ) → a * b ≤ limit → times_of a b ≡ Fine (a * b)
+pub sum-only : (a b : ℕ) {why : Refusal} → sum_of a b ≡ Err why → why ≡ TooLarge
+unfolding sum_of
+sum-only a b e = over-only (a + b) e
+
+pub times-fine : (a b : ℕ) → a * b ≤ limit → times_of a b ≡ Ok (a * b)
 unfolding times_of
 times-fine a b h = within-fine (a * b) h
 
-pub times-over : (a b : ℕ) → limit < a * b → times_of a b ≡ Over
+pub times-over : (a b : ℕ) → limit < a * b → times_of a b ≡ Err TooLarge
 unfolding times_of
 times-over a b h = within-over (a * b) h
 
-pub times-is : (a b : ℕ) {n : ℕ} → times_of a b ≡ Fine n → (n ≡ a * b) × (n ≤ limit)
+pub times-is : (a b : ℕ) {n : ℕ} → times_of a b ≡ Ok n → (n ≡ a * b) × (n ≤ limit)
 unfolding times_of
 times-is a b e = (fine-is (a * b) e, fine-small (a * b) e)
 
-pub times-large : (a b : ℕ) → times_of a b ≡ Over → limit < a * b
+pub times-large : (a b : ℕ) → times_of a b ≡ Err TooLarge → limit < a * b
 unfolding times_of
 times-large a b e = over-large (a * b) e
 
-pub times_none : (a b : ℕ) → a ≡ 0 → times_of a b ≡ Fine 0
+pub times-only : (a b : ℕ) {why : Refusal} → times_of a b ≡ Err why → why ≡ TooLarge
+unfolding times_of
+times-only a b e = over-only (a * b) e
+
+pub times_none : (a b : ℕ) → a ≡ 0 → times_of a b ≡ Ok 0
 unfolding times_of
 times_none a b h = rw (h, zero-mul) (within-fine 0 (omega arith))
 
@@ -98,67 +114,67 @@ pub product-large : (a b n : ℕ) → 0 < a → n / a < b → n < a * b
 product-large a b n p h = subst (λ (k : ℕ). n < k) (mul_comm b a) ((div-lt_iff_lt-mul p).0 h)
 
 -- ---- moments and spans
-span-in : (o : Sum) {s : Span} → as_span o ≡ SpanOf s → o ≡ Fine s.0
-span-in (Fine n) {s} e = let z : span n ≡ s = cc in ap (λ (t : Span). Fine t.0) z
-span-in Over {s} e = cc
+span-in : (o : Result ℕ Refusal) {s : Span} → as_span o ≡ Ok s → o ≡ Ok s.0
+span-in (Ok n) {s} e = let z : span n ≡ s = cc in ap (λ (t : Span). Ok t.0) z
+span-in (Err why) {s} e = cc
 
-span-out : (o : Sum) → as_span o ≡ TooLong → o ≡ Over
-span-out (Fine n) e = cc
-span-out Over e = refl
+span-out : (o : Result ℕ Refusal) → as_span o ≡ Err TooLarge → o ≡ Err TooLarge
+span-out (Ok n) e = cc
+span-out (Err why) e = cc
 
-moment-in : (o : Sum) {m : Moment} → as_moment o ≡ MomentOf m → o ≡ Fine m.0
-moment-in (Fine n) {m} e = let z : moment n ≡ m = cc in ap (λ (t : Moment). Fine t.0) z
-moment-in Over {m} e = cc
+moment-in : (o : Result ℕ Refusal) {m : Moment} → as_moment o ≡ Ok m → o ≡ Ok m.0
+moment-in (Ok n) {m} e = let z : moment n ≡ m = cc in ap (λ (t : Moment). Ok t.0) z
+moment-in (Err why) {m} e = cc
 
-moment-out : (o : Sum) → as_moment o ≡ TooLate → o ≡ Over
-moment-out (Fine n) e = cc
-moment-out Over e = refl
+moment-out : (o : Result ℕ Refusal) → as_moment o ≡ Err TooLarge → o ≡ Err TooLarge
+moment-out (Ok n) e = cc
+moment-out (Err why) e = cc
 
-pub spans-fine : (a b : Span) → a.0 + b.0 ≤ limit → span_sum_of a b ≡ SpanOf (span (a.0 + b.0))
+pub spans-fine : (a b : Span) → a.0 + b.0 ≤ limit → span_sum_of a b ≡ Ok (span (a.0 + b.0))
 unfolding span_sum_of
 spans-fine a b h = ap as_span (sum-fine a.0 b.0 h)
 
-pub spans-over : (a b : Span) → limit < a.0 + b.0 → span_sum_of a b ≡ TooLong
+pub spans-over : (a b : Span) → limit < a.0 + b.0 → span_sum_of a b ≡ Err TooLarge
 unfolding span_sum_of
 spans-over a b h = ap as_span (sum_over a.0 b.0 h)
 
-pub spans-is : (a b : Span) {s : Span} → span_sum_of a b ≡ SpanOf s → (s.0 ≡ a.0 + b.0) × (s.0 ≤ limit)
+pub spans-is : (a b : Span) {s : Span} → span_sum_of a b ≡ Ok s → (s.0 ≡ a.0 + b.0) × (s.0 ≤ limit)
 unfolding span_sum_of
 spans-is a b e = sum_is a.0 b.0 (span-in (sum_of a.0 b.0) e)
 
-pub spans-large : (a b : Span) → span_sum_of a b ≡ TooLong → limit < a.0 + b.0
+pub spans-large : (a b : Span) → span_sum_of a b ≡ Err TooLarge → limit < a.0 + b.0
 unfolding span_sum_of
 spans-large a b e = sum-large a.0 b.0 (span-out (sum_of a.0 b.0) e)
 
-pub scaled-fine : (k : ℕ) (s : Span) → k * s.0 ≤ limit → scaled_of k s ≡ SpanOf (span (k * s.0))
+pub scaled-fine : (k : ℕ) (s : Span) → k * s.0 ≤ limit → scaled_of k s ≡ Ok (span (k * s.0))
 unfolding scaled_of
 scaled-fine k s h = ap as_span (times-fine k s.0 h)
 
-pub scaled-over : (k : ℕ) (s : Span) → limit < k * s.0 → scaled_of k s ≡ TooLong
+pub scaled-over : (k : ℕ) (s : Span) → limit < k * s.0 → scaled_of k s ≡ Err TooLarge
 unfolding scaled_of
 scaled-over k s h = ap as_span (times-over k s.0 h)
 
-pub scaled-is : (k : ℕ) (s : Span) {r : Span} → scaled_of k s ≡ SpanOf r → (r.0 ≡ k * s.0) × (r.0 ≤ limit)
+pub scaled-is : (k : ℕ) (s : Span) {r : Span} → scaled_of k s ≡ Ok r → (r.0 ≡ k * s.0) × (r.0 ≤ limit)
 unfolding scaled_of
 scaled-is k s e = times-is k s.0 (span-in (times_of k s.0) e)
 
-pub scaled-large : (k : ℕ) (s : Span) → scaled_of k s ≡ TooLong → limit < k * s.0
+pub scaled-large : (k : ℕ) (s : Span) → scaled_of k s ≡ Err TooLarge → limit < k * s.0
 unfolding scaled_of
 scaled-large k s e = times-large k s.0 (span-out (times_of k s.0) e)
 
-pub later-fine : (m : Moment) (s : Span) → m.0 + s.0 ≤ limit → later_of m s ≡ MomentOf (moment (m.0 + s.0))
+pub later-fine : (m : Moment) (s : Span) → m.0 + s.0 ≤ limit → later_of m s ≡ Ok (moment (m.0 + s.0))
 unfolding later_of
 later-fine m s h = ap as_moment (sum-fine m.0 s.0 h)
 
-pub later-over : (m : Moment) (s : Span) → limit < m.0 + s.0 → later_of m s ≡ TooLate
+pub later-over : (m : Moment) (s : Span) → limit < m.0 + s.0 → later_of m s ≡ Err TooLarge
 unfolding later_of
 later-over m s h = ap as_moment (sum_over m.0 s.0 h)
 
-pub later-is : (m : Moment) (s : Span) {r : Moment} → later_of m s ≡ MomentOf r → (r.0 ≡ m.0 + s.0) × (r.0 ≤ limit)
+pub later-is : (m : Moment) (s : Span) {r : Moment} → later_of m s ≡ Ok r → (r.0 ≡ m.0 + s.0) × (r.0 ≤ limit)
 unfolding later_of
 later-is m s e = sum_is m.0 s.0 (moment-in (sum_of m.0 s.0) e)
 
-pub later-large : (m : Moment) (s : Span) → later_of m s ≡ TooLate → limit < m.0 + s.0
+pub later-large : (m : Moment) (s : Span) → later_of m s ≡ Err TooLarge → limit < m.0 + s.0
 unfolding later_of
 later-large m s e = sum-large m.0 s.0 (moment-out (sum_of m.0 s.0) e)
 
@@ -208,25 +224,25 @@ nearest-least num den x s =
     let m = mul-le-mul_right x s.least in
     (le-div_iff_mul-le p).1 (omega arith)
 
-pub nearest-past : (num den x : ℕ) → Small num den → limit < x → TooLong ≡ as_span (within (nearest num den x))
+pub nearest-past : (num den x : ℕ) → Small num den → limit < x → (Err TooLarge) ≡ as_span (within (nearest num den x))
 nearest-past num den x s h = rw (within-over (nearest num den x) (lt_of_lt_of_le h (nearest-least num den x s)))
 
-pub nearest-over : (num den x : ℕ) → limit < nearest num den x → TooLong ≡ as_span (within (nearest num den x))
+pub nearest-over : (num den x : ℕ) → limit < nearest num den x → (Err TooLarge) ≡ as_span (within (nearest num den x))
 nearest-over num den x h = rw (within-over (nearest num den x) h)
 
-pub nearest-fine : (num den x : ℕ) → nearest num den x ≤ limit → SpanOf (span (nearest num den x)) ≡ as_span (within (nearest num den x))
+pub nearest-fine : (num den x : ℕ) → nearest num den x ≤ limit → Ok (span (nearest num den x)) ≡ as_span (within (nearest num den x))
 nearest-fine num den x h = rw (within-fine (nearest num den x) h)
 
 -- for callers
-pub product-fine : (s : Span) (t : TimeThreshold) → nearest (numerator_of t) (denominator_of t) s.0 ≤ limit → product_of s t ≡ SpanOf (span (nearest (numerator_of t) (denominator_of t) s.0))
+pub product-fine : (s : Span) (t : TimeThreshold) → nearest (numerator_of t) (denominator_of t) s.0 ≤ limit → product_of s t ≡ Ok (span (nearest (numerator_of t) (denominator_of t) s.0))
 unfolding product_of
 product-fine s t h = ap as_span (within-fine (nearest (numerator_of t) (denominator_of t) s.0) h)
 
-pub product-over : (s : Span) (t : TimeThreshold) → limit < nearest (numerator_of t) (denominator_of t) s.0 → product_of s t ≡ TooLong
+pub product-over : (s : Span) (t : TimeThreshold) → limit < nearest (numerator_of t) (denominator_of t) s.0 → product_of s t ≡ Err TooLarge
 unfolding product_of
 product-over s t h = ap as_span (within-over (nearest (numerator_of t) (denominator_of t) s.0) h)
 
-pub product_is : (s : Span) (t : TimeThreshold) {r : Span} → product_of s t ≡ SpanOf r → (r.0 ≡ nearest (numerator_of t) (denominator_of t) s.0) × (r.0 ≤ limit)
+pub product_is : (s : Span) (t : TimeThreshold) {r : Span} → product_of s t ≡ Ok r → (r.0 ≡ nearest (numerator_of t) (denominator_of t) s.0) × (r.0 ≤ limit)
 unfolding product_of
 product_is s t e =
     let n = nearest (numerator_of t) (denominator_of t) s.0 in

@@ -3,9 +3,10 @@ use Rattle.std.specs.Prelude.{ℕ, ◌+◌, Bool, cond, ◌&&◌, T, List, [], �
 use Rattle.std.specs.Float.{binary64}
 use Rattle.std.specs.Float.Ieee.{to_bits, of_bits, eq, le, of_int, add, div, to_unsigned}
 use Rattle.arith.specs.Whole.{within}
-use Rattle.arith.specs.Time.{span, span_number, span_value}
+use Rattle.arith.specs.Refusals.{refusal_of}
+use Rattle.arith.specs.Time.{span, span_value}
 use Rattle.arith.specs.Round.{nearest, product_of, seconds_of, truncated_of}
-use Rattle.arith.specs.Root.{root_number, root_value}
+use Rattle.arith.specs.Root.{root_value}
 use Rattle.arith.specs.RootOf.{root_of}
 use Rattle.arith.specs.declared.round.TimeThreshold.{TimeThreshold}
 use Rattle.arith.specs.declared.round.TimeThreshold.TheVariants.{NineEighths, FiveFourths}
@@ -22,8 +23,8 @@ pub data Row : Type 0 where
 
 unfoldable pub right : Row → Bool
 unfolding within nearest product_of seconds_of root_of of_bits to_bits eq le of_int add div to_unsigned
-right (delay x t n r) = let d = product_of (span x) t in (span_number d == n) && span_value d == r
-right (root a n r) = let o = root_of (of_bits binary64 a) in (root_number o == n) && to_bits binary64 (root_value o) == r
+right (delay x t n r) = let d = product_of (span x) t in (refusal_of d == n) && span_value d == r
+right (root a n r) = let o = root_of (of_bits binary64 a) in (refusal_of o == n) && to_bits binary64 (root_value o) == r
 right (seconds x b) = to_bits binary64 (seconds_of (span x)) == b
 right (whole a n) = truncated_of (of_bits binary64 a) == n
 

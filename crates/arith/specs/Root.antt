@@ -1,9 +1,10 @@
 -- The cube root, by what it is and not by how it is found. 01 'CUBIC (001)', 'The stage numbers' refusal 2. Definitions only.
-use Rattle.std.specs.Prelude.{◌≡◌, ℕ, ◌+◌, ◌*◌, ◌<◌, ◌≤◌, Bool, true, false, T, ℤ, pos, negsuc, Float}
+use Rattle.std.specs.Prelude.{◌≡◌, ℕ, ◌+◌, ◌*◌, ◌<◌, ◌≤◌, Bool, true, false, T, ℤ, pos, negsuc, Float, Result, Ok, Err}
+use Rattle.std.specs.Result.{result_unwrap_or}
 use Rattle.std.specs.Float.{nan, inf, fin, binary64}
 use Rattle.std.specs.Float.Ieee.{fits, le, eq}
-use Rattle.arith.specs.declared.root.Root.{Root}
-use Rattle.arith.specs.declared.root.Root.TheVariants.{Is, Refused}
+use Rattle.arith.specs.declared.refusal.Refusal.{Refusal}
+use Rattle.arith.specs.declared.refusal.Refusal.TheVariants.{Domain}
 
 -- the exponent of a cube
 abbrev pub thrice : ℤ → ℤ
@@ -34,29 +35,24 @@ abbrev pub greatest : Float
 greatest = fin false 1 (pos 40)
 
 -- either 0 gives +0; outside 2^-60 to 2^40, or no number, it is refused. The Bools: x is a 0, least <= x, x <= greatest. 01 'CUBIC (001)', 'The stage numbers' refusal 2
-unfoldable pub Case : Bool → Bool → Bool → Float → Root → Type 0
-Case true a b x o = o ≡ Is nought
-Case false true true x o = (r : Float) × (o ≡ Is r) × Largest x r
-Case false true false x o = o ≡ Refused 2
-Case false false b x o = o ≡ Refused 2
+unfoldable pub Case : Bool → Bool → Bool → Float → Result Float Refusal → Type 0
+Case true a b x o = o ≡ Ok nought
+Case false true true x o = (r : Float) × (o ≡ Ok r) × Largest x r
+Case false true false x o = o ≡ Err Domain
+Case false false b x o = o ≡ Err Domain
 
-unfoldable pub Answers : Float → Root → Type 0
+unfoldable pub Answers : Float → Result Float Refusal → Type 0
 unfolding Case
 Answers x o = Case (eq x nought) (le least x) (le x greatest) x o
 
 -- what the operation promises: the argument is a 64-bit float, as any is that it is called with, and the answer is right
-pub record Rooted (x : Float) (o : Root) : Type 0 where
+pub record Rooted (x : Float) (o : Result Float Refusal) : Type 0 where
   pub given : T (fits binary64 x)
   pub right : Answers x o
 
--- the refusal's number, 0 where there is a root, and the root. 01 'The stage numbers'
-abbrev pub root_number : Root → ℕ
-root_number (Is r) = 0
-root_number (Refused n) = n
-
-abbrev pub root_value : Root → Float
-root_value (Is r) = r
-root_value (Refused n) = nought
+-- the root, +0 where it is refused
+abbrev pub root_value : Result Float Refusal → Float
+root_value o = result_unwrap_or o nought
 
 -- over whole numbers, for the code's own parts: q is the largest whose cube is at most n
 pub record WholeRoot (n q : ℕ) : Type 0 where

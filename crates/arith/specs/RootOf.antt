@@ -1,10 +1,10 @@
 -- The cube root's answer as a function, to compute with in tables and in definitions above. That it is the answer of Root.antt is `root_is` of proofs/Answer.antt. Definitions only.
-use Rattle.std.specs.Prelude.{ℕ, zero, suc, ◌+◌, ◌*◌, ◌/◌, ◌%◌, ◌^◌, cond, from_bits, nat_le, to_bits, Float}
+use Rattle.std.specs.Prelude.{ℕ, zero, suc, ◌+◌, ◌*◌, ◌/◌, ◌%◌, ◌^◌, cond, from_bits, nat_le, to_bits, Float, Result, Ok, Err}
 use Rattle.std.specs.Float.{binary64}
 use Rattle.std.specs.Float.Ieee.{le, eq}
 use Rattle.arith.specs.Root.{nought, least, greatest}
-use Rattle.arith.specs.declared.root.Root.{Root}
-use Rattle.arith.specs.declared.root.Root.TheVariants.{Is, Refused}
+use Rattle.arith.specs.declared.refusal.Refusal.{Refusal}
+use Rattle.arith.specs.declared.refusal.Refusal.TheVariants.{Domain}
 
 -- the largest whole number whose cube is at most n, a bit at a time, below q + 2^k
 unfoldable pub whole_from : ℕ → ℕ → ℕ → ℕ
@@ -19,7 +19,7 @@ root_bits b =
     (e / 3 + 681) * 2 ^ 52 + whole_from 52 (2 ^ 52) ((b % 2 ^ 52 + 2 ^ 52) * 2 ^ (e % 3) * 2 ^ 104)
 
 -- 01 'CUBIC (001)', 'The stage numbers' refusal 2
-unfoldable pub root_of : Float → Root
+unfoldable pub root_of : Float → Result Float Refusal
 unfolding root_bits
 root_of x =
-    cond (eq x nought) (Is nought) (cond (le least x) (cond (le x greatest) (Is (from_bits binary64 (root_bits (to_bits binary64 x)))) (Refused 2)) (Refused 2))
+    cond (eq x nought) (Ok nought) (cond (le least x) (cond (le x greatest) (Ok (from_bits binary64 (root_bits (to_bits binary64 x)))) (Err Domain)) (Err Domain))

@@ -1,5 +1,5 @@
 -- Rounding: of the loss delay, and between whole numbers and floats. 01 'Lost or not', 'CUBIC (001)'. Definitions only.
-use Rattle.std.specs.Prelude.{ℕ, ◌+◌, ◌*◌, ◌/◌, ◌%◌, ◌<◌, ◌≤◌, Bool, true, false, pos, from_bits, Float}
+use Rattle.std.specs.Prelude.{ℕ, ◌+◌, ◌*◌, ◌/◌, ◌%◌, ◌<◌, ◌≤◌, Bool, true, false, pos, from_bits, Float, Result}
 use Rattle.std.specs.Float.{binary64}
 use Rattle.std.specs.Float.Ieee.{add, div, of_int, to_unsigned}
 use Rattle.arith.specs.Whole.{within}
@@ -7,7 +7,7 @@ use Rattle.arith.specs.Time.{as_span}
 use Rattle.arith.specs.declared.round.TimeThreshold.{TimeThreshold}
 use Rattle.arith.specs.declared.round.TimeThreshold.TheVariants.{NineEighths, FiveFourths}
 use Rattle.arith.specs.declared.time.Span.{Span}
-use Rattle.arith.specs.declared.time.SpanSum.{SpanSum}
+use Rattle.arith.specs.declared.refusal.Refusal.{Refusal}
 
 -- time threshold 9/8, after a spurious loss 5/4. 01 'The stage numbers', 'Acknowledgement (000)' 3
 abbrev pub numerator_of : TimeThreshold → ℕ
@@ -35,7 +35,7 @@ unfoldable pub nearest : ℕ → ℕ → ℕ → ℕ
 nearest num den x = (2 * (num * x) + den) / (2 * den)
 
 -- a span × threshold; refusal 7 reads the rounded delay. 01 'Lost or not'
-unfoldable pub product_of : Span → TimeThreshold → SpanSum
+unfoldable pub product_of : Span → TimeThreshold → Result Span Refusal
 product_of s t = as_span (within (nearest (numerator_of t) (denominator_of t) s.0))
 
 -- the whole part, as the Rust's `as usize` has it: 0 for a NaN or below 0, 2^64-1 where it is past that. 01 'Order and changes of shape'

@@ -1,14 +1,10 @@
 -- Moments and spans: numbers of two distinct kinds. 01 'The stage numbers'. Definitions only.
-use Rattle.std.specs.Prelude.{ℕ, ◌+◌, ◌-◌, min, max, Bool, nat_le}
+use Rattle.std.specs.Prelude.{ℕ, ◌+◌, ◌-◌, min, max, Bool, nat_le, Result, Ok, Err}
 use Rattle.arith.specs.Whole.{sum_of, times_of}
-use Rattle.arith.specs.declared.time.Sum.{Sum}
-use Rattle.arith.specs.declared.time.Sum.TheVariants.{Fine, Over}
 use Rattle.arith.specs.declared.time.Moment.{Moment}
 use Rattle.arith.specs.declared.time.Span.{Span}
-use Rattle.arith.specs.declared.time.SpanSum.{SpanSum}
-use Rattle.arith.specs.declared.time.SpanSum.TheVariants.{SpanOf, TooLong}
-use Rattle.arith.specs.declared.time.MomentSum.{MomentSum}
-use Rattle.arith.specs.declared.time.MomentSum.TheVariants.{MomentOf, TooLate}
+use Rattle.arith.specs.declared.refusal.Refusal.{Refusal}
+use Rattle.arith.specs.declared.refusal.Refusal.TheVariants.{TooLarge}
 
 -- so many whole nanoseconds, of length and of the clock. 01 'The stage numbers'
 abbrev pub span : ℕ → Span
@@ -18,22 +14,22 @@ abbrev pub moment : ℕ → Moment
 moment n = record { 0 = n }
 
 -- a number of nanoseconds read as either kind; past 2^53-1 it is neither. 01 'The stage numbers', refusal 7
-abbrev pub as_span : Sum → SpanSum
-as_span (Fine n) = SpanOf (span n)
-as_span Over = TooLong
+abbrev pub as_span : Result ℕ Refusal → Result Span Refusal
+as_span (Ok n) = Ok (span n)
+as_span (Err why) = Err why
 
-abbrev pub as_moment : Sum → MomentSum
-as_moment (Fine n) = MomentOf (moment n)
-as_moment Over = TooLate
+abbrev pub as_moment : Result ℕ Refusal → Result Moment Refusal
+as_moment (Ok n) = Ok (moment n)
+as_moment (Err why) = Err why
 
 -- a span and a span are a span; a span after a moment is a moment. 01 'The stage numbers'
-unfoldable pub span_sum_of : Span → Span → SpanSum
+unfoldable pub span_sum_of : Span → Span → Result Span Refusal
 span_sum_of a b = as_span (sum_of a.0 b.0)
 
-unfoldable pub scaled_of : ℕ → Span → SpanSum
+unfoldable pub scaled_of : ℕ → Span → Result Span Refusal
 scaled_of k s = as_span (times_of k s.0)
 
-unfoldable pub later_of : Moment → Span → MomentSum
+unfoldable pub later_of : Moment → Span → Result Moment Refusal
 later_of m s = as_moment (sum_of m.0 s.0)
 
 -- from the second moment to the first, 0 where that is before it: 000's saturating_duration_since
@@ -52,19 +48,11 @@ shorter_of a b = span (min a.0 b.0)
 abbrev pub passed_by : Moment → Span → Moment → Bool
 passed_by m s now = nat_le (m.0 + s.0) now.0
 
--- the refusal's number, 0 where the answer is accepted, and the nanoseconds. 01 'The stage numbers'
-abbrev pub span_number : SpanSum → ℕ
-span_number (SpanOf s) = 0
-span_number TooLong = 7
+-- the nanoseconds, 0 where they are refused
+abbrev pub span_value : Result Span Refusal → ℕ
+span_value (Ok s) = s.0
+span_value (Err why) = 0
 
-abbrev pub span_value : SpanSum → ℕ
-span_value (SpanOf s) = s.0
-span_value TooLong = 0
-
-abbrev pub moment_number : MomentSum → ℕ
-moment_number (MomentOf m) = 0
-moment_number TooLate = 7
-
-abbrev pub moment_value : MomentSum → ℕ
-moment_value (MomentOf m) = m.0
-moment_value TooLate = 0
+abbrev pub moment_value : Result Moment Refusal → ℕ
+moment_value (Ok m) = m.0
+moment_value (Err why) = 0

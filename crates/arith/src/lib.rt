@@ -3,6 +3,7 @@
 #![tactic(auto)]
 
 pub mod exports;
+pub mod refusal;
 pub mod root;
 pub mod round;
 pub mod time;

@@ -3,6 +3,8 @@
 ghost use Rattle.std.specs.Prelude.{◌≡◌, ◌+◌, ◌*◌, ◌^◌, ◌<◌, ◌≤◌, nat_le};
 ghost use Rattle.arith.specs.Root.{Rooted, WholeRoot};
 
+use crate::refusal::Refusal;
+
 const TWO_26: u64 = 67108864;
 
 const TWO_52: u64 = 4503599627370496;
@@ -13,12 +15,6 @@ const TWO_53: u64 = 9007199254740992;
 const LEAST: f64 = 8.673617379884035e-19;
 
 const GREATEST: f64 = 1099511627776.0;
-
-#[derive(Clone, Copy)]
-pub enum Root {
-    Is(f64),
-    Refused(u8),
-}
 
 // high * 2^52 + low.
 #[derive(Clone, Copy)]
@@ -68,7 +64,7 @@ fn cube_within(q: u64, a: u64) -> bool
     false
 }
 
-// The whole root of a times 2^104, which lies from `from` on and below `to`, by halving.
+// The whole root of a times 2^104, which lies from `from` on and below `to`, by halving: no iterator's bracket narrows from both ends.
 fn settle(a: u64, from: u64, to: u64) -> u64
     requires { (from < to) × (to ≤ 2 ^ 53) × (from * from * from ≤ a * 2 ^ 104) × (a * 2 ^ 104 < to * to * to) }
     ensures { WholeRoot (a * 2 ^ 104) result × (from ≤ result) × (result < to) }
@@ -95,11 +91,11 @@ fn whole_root(a: u64) -> u64
 }
 
 // +0 for either 0; refusal 2 for what is not 0 and not within 2^-60 to 2^40.
-pub fn cube_root(x: f64) -> Root
+pub fn cube_root(x: f64) -> Result<f64, Refusal>
     ensures { Rooted x result }
 {
     if x == 0.0 {
-        return Root::Is(0.0);
+        return Ok(0.0);
     }
     if x >= LEAST {
         if x <= GREATEST {
@@ -108,8 +104,8 @@ pub fn cube_root(x: f64) -> Root
             let e = bits / TWO_52;
             let m = bits % TWO_52 + TWO_52;
             let q = whole_root(m << (e % 3));
-            return Root::Is(f64::from_bits((e / 3 + 681) * TWO_52 + q));
+            return Ok(f64::from_bits((e / 3 + 681) * TWO_52 + q));
         }
     }
-    Root::Refused(2)
+    Err(Refusal::Domain)
 }

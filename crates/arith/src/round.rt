@@ -4,7 +4,8 @@ ghost use Rattle.arith.specs.Whole.{within};
 ghost use Rattle.arith.specs.Time.{as_span};
 ghost use Rattle.arith.specs.Round.{Small, nearest, product_of, truncated_of, float_of, seconds_of};
 
-use crate::time::{LIMIT, Span, SpanSum};
+use crate::refusal::Refusal;
+use crate::time::{LIMIT, Span};
 
 // Nanoseconds in a second.
 const SECOND: u64 = 1000000000;
@@ -17,7 +18,7 @@ pub enum TimeThreshold {
 }
 
 // s times the threshold, to the nearest nanosecond, halves up.
-pub fn rounded_product(s: Span, t: TimeThreshold) -> SpanSum
+pub fn rounded_product(s: Span, t: TimeThreshold) -> Result<Span, Refusal>
     ensures { result ≡ product_of s t }
 {
     match t {
@@ -27,19 +28,19 @@ pub fn rounded_product(s: Span, t: TimeThreshold) -> SpanSum
 }
 
 // x times num / den as a span. A delay is rounded here and nowhere else.
-fn rounded(num: u64, den: u64, x: u64) -> SpanSum
+fn rounded(num: u64, den: u64, x: u64) -> Result<Span, Refusal>
     requires { Small num den }
     ensures { result ≡ as_span (within (nearest num den x)) }
 {
     // The product is no smaller than x, and fits where x is a time.
     if x > LIMIT {
-        return SpanSum::TooLong;
+        return Err(Refusal::TooLarge);
     }
     let ns = (2 * (num * x) + den) / (2 * den);
     if ns > LIMIT {
-        return SpanSum::TooLong;
+        return Err(Refusal::TooLarge);
     }
-    SpanSum::SpanOf(Span(ns))
+    Ok(Span(ns))
 }
 
 // The whole part of x, as the Rust's `as usize` has it: 0 for a NaN or below 0, 2^64-1 for what passes it.

@@ -4,7 +4,8 @@
 
 ghost use Rattle.std.specs.Prelude.{◌≡◌};
 ghost use Rattle.arith.specs.Time.{span, span_value};
-ghost use Rattle.arith.specs.Root.{root_number, root_value};
+ghost use Rattle.arith.specs.Refusals.{refusal_of};
+ghost use Rattle.arith.specs.Root.{root_value};
 ghost use Rattle.arith.specs.RootOf.{root_of};
 ghost use Rattle.arith.specs.Round.{threshold_of, product_of, truncated_of, seconds_of};
 
@@ -19,7 +20,7 @@ pub extern "C" fn skavvilet_cube_root(x: f64) -> f64
 // The number of the root's refusal, and 0 where there is none.
 #[unsafe(no_mangle)]
 pub extern "C" fn skavvilet_cube_root_refusal(x: f64) -> u8
-    ensures { result ≡ root_number (root_of x) }
+    ensures { result ≡ refusal_of (root_of x) }
 {
     arith::exports::skavvilet_cube_root_refusal(x)
 }

@@ -1,58 +1,23 @@
 -- Laws of the audit's total: one record, one record more, all of them. Assumes nothing.
-use Prim.Native.Nat.{ℕ, ◌+◌, ◌≤◌, ◌<◌}
+use Prim.Native.Nat.{ℕ, suc, ◌+◌, ◌≤◌, ◌<◌}
 use mathlib.Core.Path.{◌≡◌, refl, ap, sym, ◌∙◌}
 use mathlib.Core.Bool.{Bool, true, false, cond, ◌&&◌, not}
 use mathlib.Core.List.{List, [], ◌∷◌}
 use native.Mathlib.Nat.{add_assoc, zero-add}
 use native.Mathlib.Omega.{arith}
+use native.Mathlib.Numerals.{add-one}
 use lib.Dec.{T, leb, leb→le, nleb→lt}
+use lib.ListN.{length, get_or, drop, drop_of_length-le}
+use lib.Seq.{drop-cons}
 use Rattle.arith.specs.Whole.{limit, within, sum_of}
-use Rattle.arith.specs.declared.time.Moment.{Moment}
-use Rattle.arith.specs.declared.time.Sum.{Sum}
-use Rattle.arith.specs.declared.time.Sum.TheVariants.{Fine, Over}
-use Rattle.arith.proofs.Laws.{within-fine, within-over, sum-fine, sum_over}
+use Rattle.arith.proofs.Laws.{within-fine, within-over, sum-fine, sum_over, sum_is, sum-large, sum-only}
 use Rattle.model.specs.Connection.{outstanding}
-use Rattle.model.specs.Numbers.{is_unset}
 use Rattle.model.specs.Sent.{standing}
 use Rattle.model.specs.declared.Sent.{Sent}
-use Rattle.model.specs.declared.Time.TheVariants.{Unset, At}
-use Rattle.audit.specs.Total.{total_of, plus_of, added_up}
-
--- ---- one record
-
-module _ (r : Sent) where
-  one : outstanding (r ∷ []) ≡ cond (r.in_flight && (not r.acked && is_unset r.time_lost)) (r.size + 0) 0
-  unfolding outstanding
-  one = refl
-
-  pub not-in-flight : not r.in_flight ≡ true → 0 ≡ outstanding (r ∷ [])
-  not-in-flight e = rw one (go r.in_flight e)
-    where
-      go : (b : Bool) → not b ≡ true → 0 ≡ cond (b && (not r.acked && is_unset r.time_lost)) (r.size + 0) 0
-      go true e = cc
-      go false e = refl
-
-  pub is-acked : r.acked ≡ true → 0 ≡ outstanding (r ∷ [])
-  is-acked e = rw (one, e) (go r.in_flight)
-    where
-      go : (b : Bool) → 0 ≡ cond (b && false) (r.size + 0) 0
-      go true = refl
-      go false = refl
-
-  pub is_lost : {t : Moment} → r.time_lost ≡ At t → 0 ≡ outstanding (r ∷ [])
-  is_lost {t} e = rw (one, e) (go r.in_flight r.acked)
-    where
-      go : (b a : Bool) → 0 ≡ cond (b && (not a && false)) (r.size + 0) 0
-      go true true = refl
-      go true false = refl
-      go false a = refl
-
-  pub is-out : not r.in_flight ≡ false → r.acked ≡ false → r.time_lost ≡ Unset → r.size ≡ outstanding (r ∷ [])
-  is-out f a u = rw (one, a, u) (go r.in_flight f)
-    where
-      go : (b : Bool) → not b ≡ false → r.size ≡ cond (b && true) (r.size + 0) 0
-      go true e = omega arith
-      go false e = cc
+use Rattle.audit.specs.Total.{total_of, added_up}
+use Rattle.std.specs.Prelude.{Result, Ok, Err}
+use Rattle.arith.specs.declared.refusal.Refusal.{Refusal}
+use Rattle.arith.specs.declared.refusal.Refusal.TheVariants.{TooLarge}
 
 -- one record, and the others
 pub one_more : (r : Sent) (l : List Sent) → outstanding (r ∷ l) ≡ outstanding (r ∷ []) + outstanding l
@@ -63,26 +28,16 @@ one_more r l = go (r.in_flight && standing r)
     go true = omega arith
     go false = omega arith
 
--- ---- a total with one record more
-
-pub plus-fine : (s : Sum) (r : Sent) {n w : ℕ} {t : Sum} → s ≡ Fine n → w ≡ outstanding (r ∷ []) → t ≡ sum_of n w → t ≡ plus_of s r
-unfolding plus_of
-plus-fine s r e f g = rw (e, ← f) g
-
-pub plus-over : (s : Sum) (r : Sent) → s ≡ Over → Over ≡ plus_of s r
-unfolding plus_of
-plus-over s r e = rw e
-
 -- ---- all of them
 
 -- once over, it stays over
-pub over-stays : (l : List Sent) → added_up Over l ≡ Over
+pub over-stays : (l : List Sent) → added_up (Err TooLarge) l ≡ (Err TooLarge)
 unfolding added_up
 over-stays [] = refl
 over-stays (r ∷ l) = over-stays l
 
 -- from a total that fits, the sum of all, or over
-pub added-fine : (l : List Sent) (n : ℕ) → n ≤ limit → added_up (Fine n) l ≡ within (n + outstanding l)
+pub added-fine : (l : List Sent) (n : ℕ) → n ≤ limit → added_up (Ok n) l ≡ within (n + outstanding l)
 unfolding added_up outstanding
 added-fine [] n small = let z : n + 0 ≡ n = omega arith in rw z (sym (within-fine n small))
 added-fine (r ∷ l) n small = go (leb (n + outstanding (r ∷ [])) limit) (leb→le _ _) (nleb→lt _ _) (λ m fits. added-fine l m fits)
@@ -90,12 +45,39 @@ added-fine (r ∷ l) n small = go (leb (n + outstanding (r ∷ [])) limit) (leb�
     whole : n + outstanding (r ∷ l) ≡ n + outstanding (r ∷ []) + outstanding l
     whole = rw (one_more r l) (sym (add_assoc n (outstanding (r ∷ [])) (outstanding l)))
 
-    go : (b : Bool) → (T b → n + outstanding (r ∷ []) ≤ limit) → (T (not b) → limit < n + outstanding (r ∷ [])) → ((m : ℕ) → m ≤ limit → added_up (Fine m) l ≡ within (m + outstanding l))
+    go : (b : Bool) → (T b → n + outstanding (r ∷ []) ≤ limit) → (T (not b) → limit < n + outstanding (r ∷ [])) → ((m : ℕ) → m ≤ limit → added_up (Ok m) l ≡ within (m + outstanding l))
         → added_up (sum_of n (outstanding (r ∷ []))) l ≡ within (n + outstanding (r ∷ l))
     go true fits over rest = rw (sum-fine n (outstanding (r ∷ [])) (fits tt), whole) (rest _ (fits tt))
     go false fits over rest = rw (sum_over n (outstanding (r ∷ [])) (over tt), whole) (over-stays l ∙ sym (within-over _ (let p = over tt in omega arith)))
 
 -- one after another, from nothing
-pub one_by_one : (l : List Sent) → added_up (Fine 0) l ≡ total_of l
+pub one_by_one : (l : List Sent) → added_up (Ok 0) l ≡ total_of l
 unfolding total_of
 one_by_one l = added-fine l 0 (omega arith) ∙ ap within (zero-add (outstanding l))
+
+-- ---- a turn of the loop
+module _ (l : List Sent) (i total : ℕ) (inv : total + outstanding (drop i l) ≡ outstanding l) where
+  module _ {w : ℕ} {s : Result ℕ Refusal} (blank : Sent) (lt : i < length l) (e : w ≡ outstanding (get_or l i blank ∷ [])) (g : s ≡ sum_of total w) where
+    step : outstanding (drop i l) ≡ w + outstanding (drop (i + 1) l)
+    step = rw (add-one, drop-cons l i blank lt, e) (one_more (get_or l i blank) (drop (suc i) l))
+
+    pub scan_small : {t : ℕ} → s ≡ Ok t → t ≤ limit
+    scan_small f = (sum_is total w (sym g ∙ f)).1
+
+    pub scan_on : {t : ℕ} → s ≡ Ok t → t + outstanding (drop (i + 1) l) ≡ outstanding l
+    scan_on f = let a = (sum_is total w (sym g ∙ f)).0 in let b = step in omega arith
+
+    pub scan_over : {why : Refusal} → s ≡ Err why → Err why ≡ total_of l
+    unfolding total_of
+    scan_over {why} f =
+        let only = sum-only total w (sym g ∙ f) in
+        let a : limit < total + w = sum-large total w (sym g ∙ f ∙ ap Err only) in
+        let b = step in
+        ap Err only ∙ sym (within-over (outstanding l) (omega arith))
+
+  pub scan_end : length l ≤ i → total ≤ limit → Ok total ≡ total_of l
+  unfolding total_of outstanding
+  scan_end le small =
+      let a : total + 0 ≡ outstanding l = rw (drop_of_length-le l le) at inv in
+      let b : total ≡ outstanding l = omega arith in
+      rw (← b) (sym (within-fine total small))

@@ -3,47 +3,32 @@
 
 ghost use Rattle.std.specs.Prelude.{◌≡◌, [], ◌∷◌};
 ghost use Rattle.model.specs.Connection.{outstanding};
-ghost use Rattle.audit.specs.Total.{plus_of, total_of};
+ghost use Rattle.audit.specs.Total.{total_of};
 
-use arith::time::{Sum, add_up};
-use model::{Sent, Time};
+use arith::refusal::Refusal;
+use arith::time::add_up;
+use model::Sent;
 
 // The bytes of one record that are still out: its size if it is in flight and neither acked nor lost, else 0.
-fn weight(r: Sent) -> u64
-    ensures { result ≡ outstanding (r ∷ []) }
+#[tactic(auto, unfolding(model::specs::Connection::outstanding))]
+fn weight(r: &Sent) -> u64
+    ensures { result ≡ outstanding (r.now ∷ []) }
 {
-    let lost = r.time_lost;
-    if !r.in_flight {
-        return 0;
-    }
-    if r.acked {
-        return 0;
-    }
-    match lost {
-        Time::Unset => r.size,
-        Time::At(_) => 0,
-    }
-}
-
-// The total with one record more.
-fn plus(total: Sum, r: Sent) -> Sum
-    ensures { result ≡ plus_of total r }
-{
-    match total {
-        Sum::Fine(n) => add_up(n, weight(r)),
-        Sum::Over => Sum::Over,
+    if r.in_flight && !r.acked && r.time_lost.is_none() {
+        r.size
+    } else {
+        0
     }
 }
 
 // The bytes of all records that are still out, or that they pass 2^53-1.
-pub fn audit(records: &[Sent]) -> Sum
+#[tactic(auto, using(crate::proofs::Laws::scan_small, crate::proofs::Laws::scan_on))]
+pub fn audit(records: &[Sent]) -> Result<u64, Refusal>
     ensures { result ≡ total_of records.now }
 {
-    let mut total = Sum::Fine(0);
-    let mut i: usize = 0;
-    while i < records.len() {
-        total = plus(total, records[i]);
-        i = i + 1;
+    let mut total = 0;
+    for r in records {
+        total = add_up(total, weight(r))?;
     }
-    total
+    Ok(total)
 }

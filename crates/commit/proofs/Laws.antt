@@ -1,12 +1,12 @@
 -- What a committed event is read as: records, queues, and all that it leaves alone. For callers. Assumes nothing.
 use mathlib.Core.Path.{◌≡◌, refl, sym, ap, ◌∙◌}
 use mathlib.Core.Bool.{Bool, false}
-use mathlib.Core.List.{List, [], ◌∷◌, ◌++◌, append-nil, append_assoc}
+use mathlib.Core.List.{List, ◌++◌}
 use mathlib.Core.Logic.{◌≢◌, ⊎_elim}
 use Prim.Native.Nat.{ℕ, zero, suc, ◌+◌, ◌-◌, ◌*◌, ◌%◌, ◌≤◌, ◌<◌, min, max}
 use native.Mathlib.Nat.{add-zero, eq-zero-or-pos}
 use native.Mathlib.Omega.{arith}
-use lib.Dec.{eqb, ltb}
+use lib.Dec.{ltb}
 use lib.ListN.{length, get_or, set, take, length-set}
 use lib.Seq.{get_or-set_same, get_or-take}
 use Rattle.arith.specs.Whole.{limit}
@@ -15,13 +15,15 @@ use Rattle.arith.specs.declared.time.Moment.{Moment}
 use Rattle.model.specs.Numbers.{capacity}
 use Rattle.model.specs.declared.Sent.{Sent}
 use Rattle.records.specs.View.{all_words, at, slot, record_by, record_at, ring, records_of, queue_of}
-use Rattle.records.proofs.Laws.{at_in, at_slots, at-spaces, at-queue, queue-at, slot-queues, slot-spaces, records-ext, queue-ext, queue-push}
+use Rattle.records.proofs.Laws.{at_in, at_slots, at-spaces, at-queue, records-ext, queue-ext}
+use Rattle.records.proofs.Handles.{length-handles, handles-records, handles-queue, handles-space, queue-handles}
 use Rattle.records.proofs.Rings.{apart, ring-ext, length-ring}
 use Rattle.marks.specs.Marks.{flagged, acked_mark, lost_mark, mark_of, mark_acked, mark_settled, held_at, acked_at, settled_at, newly_of, standing_of, handles_of}
-use Rattle.marks.specs.Store.{mark_by, store_marks, store_handles}
-use Rattle.commit.specs.Commit.{newly_handles, gone_handles, settled_marks, committed, queues_after, Committed}
+use Rattle.marks.specs.Store.{mark_by, store_marks}
+use Rattle.records.specs.View.{store_handles}
+use Rattle.commit.specs.Commit.{newly_handles, gone_handles, settled_marks, committed, Committed}
 use Rattle.commit.specs.declared.Queues.{Queues}
-use Rattle.commit.proofs.Storing.{handles-other, length-handles, mark-record, marks-other, length-marks}
+use Rattle.commit.proofs.Storing.{mark-record, marks-other, length-marks}
 use Rattle.commit.proofs.Turns.{flag-past}
 
 -- ---- marks and handles, stored
@@ -94,34 +96,8 @@ module _ (m : List ℕ) (n : ℕ) where
   marks-queue k l n' w len =
       queue-ext m (store_marks m n k l) n' w len (λ i lt. marks-other m n k l (slot n' w i) (λ p lp. at-queue n n' (k + p) w i 5 (omega arith)))
 
-  -- all records stay, and so do the other queues, of this space and of the others
-  pub handles-records : (w i : ℕ) (xs : List ℕ) (n' head len : ℕ) → records_of (store_handles m n w i xs) n' head len ≡ records_of m n' head len
-  handles-records w i xs n' head len =
-      records-ext m (store_handles m n w i xs) n' head len (λ k j lt. handles-other m n w i xs (at n' k j) (λ p. queue-at n' n k w p j lt))
-
-  pub handles-queue : (w i : ℕ) (xs : List ℕ) (n' w' len : ℕ) → w' % 3 ≢ w % 3 → queue_of (store_handles m n w i xs) n' w' len ≡ queue_of m n' w' len
-  handles-queue w i xs n' w' len off =
-      queue-ext m (store_handles m n w i xs) n' w' len (λ j lt. handles-other m n w i xs (slot n' w' j) (λ p. slot-queues n n' w w' p j off))
-
-  pub handles-space : (w i : ℕ) (xs : List ℕ) (n' w' len : ℕ) → n' % 3 ≢ n % 3 → queue_of (store_handles m n w i xs) n' w' len ≡ queue_of m n' w' len
-  handles-space w i xs n' w' len off =
-      queue-ext m (store_handles m n w i xs) n' w' len (λ j lt. handles-other m n w i xs (slot n' w' j) (λ p. slot-spaces n n' w w' p j off))
-
--- handles are queued
-pub queue-handles : (m : List ℕ) (n w i : ℕ) (xs : List ℕ) → length m ≡ all_words → i + length xs ≤ capacity →
-    queue_of (store_handles m n w i xs) n w (i + length xs) ≡ queue_of m n w i ++ xs
-unfolding store_handles
-queue-handles m n w i [] full room = rw (add-zero, append-nil)
-queue-handles m n w i (x ∷ xs) full room =
-    let e : i + 1 + length xs ≡ i + suc (length xs) = omega arith in
-    let m' = set m (slot n w i) x in
-    rw (← e)
-    (queue-handles m' n w (i + 1) xs (length-set m (slot n w i) x ∙ full) (omega arith)
-    ∙ ap (λ (l : List ℕ). l ++ xs) (queue-push m n w i x full (omega arith))
-    ∙ append_assoc (queue_of m n w i) (x ∷ []) xs)
-
 -- ---- a committed event
-module _ (m : List ℕ) (n head k : ℕ) (fs : List ℕ) (from stop keep : ℕ) (time : Moment) (acked lost : ℕ) where
+module _ (m : List ℕ) (n head k : ℕ) (fs : List Bool) (from stop keep : ℕ) (time : Moment) (acked lost : ℕ) where
   abbrev after : List ℕ
   after = committed m n head k fs from stop keep time acked lost
 
@@ -136,11 +112,6 @@ module _ (m : List ℕ) (n head k : ℕ) (fs : List ℕ) (from stop keep : ℕ) 
 
   abbrev marked : List ℕ
   marked = store_handles marks n 0 acked newly
-
-  pub committed-length : length after ≡ length m
-  unfolding committed
-  committed-length =
-      length-handles marked n 1 lost gone ∙ length-handles marks n 0 acked newly ∙ length-marks m n (head + keep) (ring (settled_at m n head fs stop time) keep (k - keep))
 
   -- the records from place keep on, as they are to be
   pub committed-records : length m ≡ all_words → k ≤ capacity → records_of after n (head + keep) (k - keep) ≡ ring (settled_at m n head fs stop time) keep (k - keep)
@@ -186,19 +157,19 @@ module _ (m : List ℕ) (n head k : ℕ) (fs : List ℕ) (from stop keep : ℕ) 
       ∙ marks-queue m n (head + keep) (ring (settled_at m n head fs stop time) keep (k - keep)) n' w len
 
 -- ---- the claim of `commit` for what callers hand in: no flag from place last on, a detection that stops within the records, a moment and queues as they may be
-module _ (m : List ℕ) (n head len : ℕ) (fs : List ℕ) (last from stop keep : ℕ) (time : Moment) (acked lost : ℕ)
+module _ (m : List ℕ) (n head len : ℕ) (fs : List Bool) (last from stop keep : ℕ) (time : Moment) (acked lost : ℕ)
     (flags : (i : ℕ) → last ≤ i → i < min len capacity → flagged fs i ≡ false) (inside : stop ≤ min len capacity)
     (timely : time.0 ≤ limit) (room : acked ≤ capacity) (space : lost ≤ capacity) where
   abbrev k : ℕ
   k = min len capacity
 
-  abbrev gs : List ℕ
+  abbrev gs : List Bool
   gs = take (max last stop) fs
 
   flag_same : (i : ℕ) → i < k → flagged gs i ≡ flagged fs i
   flag_same i lt = ⊎_elim
       (λ z. let le : max last stop ≤ i = omega arith in flag-past (max last stop) i fs le ∙ sym (flags i (omega arith) lt))
-      (λ p. let l : i < max last stop = omega arith in ap (λ (x : ℕ). eqb x 1) (get_or-take (max last stop) fs i 0 l))
+      (λ p. let l : i < max last stop = omega arith in get_or-take (max last stop) fs i false l)
       (eq-zero-or-pos (max last stop - i))
 
   acked-same : (i : ℕ) → i < k → mark_acked m n head gs i ≡ mark_acked m n head fs i
@@ -236,16 +207,3 @@ module _ (m : List ℕ) (n head len : ℕ) (fs : List ℕ) (last from stop keep 
         ∙ ap (λ (l : List ℕ). store_handles (store_handles l n 0 acked (newly_handles m n head gs k)) n 1 lost (gone_handles m n head gs from stop)) marks-same
         ∙ ap (λ (l : List ℕ). store_handles (store_handles (settled_marks m n head k fs stop keep time) n 0 acked l) n 1 lost (gone_handles m n head gs from stop)) newly-same
         ∙ ap (λ (l : List ℕ). store_handles (store_handles (settled_marks m n head k fs stop keep time) n 0 acked (newly_handles m n head fs k)) n 1 lost l) gone_same
-
-    pub commit-queues : q ≡ queues_after m n head (min len capacity) fs from stop acked lost
-    unfolding queues_after
-    commit-queues =
-        let a : min stop k ≡ stop = omega arith in
-        let c : min acked capacity ≡ acked = omega arith in
-        let d : min lost capacity ≡ lost = omega arith in
-        done.queues
-        ∙ ap (λ (x : ℕ). queues_after m n head k gs from x (min acked capacity) (min lost capacity)) a
-        ∙ ap (λ (x : ℕ). queues_after m n head k gs from stop x (min lost capacity)) c
-        ∙ ap (λ (x : ℕ). queues_after m n head k gs from stop acked x) d
-        ∙ ap (λ (l : List ℕ). record { acked = acked + length l; lost = lost + length (gone_handles m n head gs from stop) }) newly-same
-        ∙ ap (λ (l : List ℕ). record { acked = acked + length (newly_handles m n head fs k); lost = lost + length l }) gone_same

@@ -11,7 +11,8 @@ use lib.Seq.{get_or-set_other, set_comm, set-get_or}
 use Rattle.model.specs.declared.Sent.{Sent}
 use Rattle.records.specs.View.{at, slot, acked_by, lost_by, record_by, record_at, ring}
 use Rattle.records.proofs.Laws.{slot-queues}
-use Rattle.marks.specs.Store.{mark_by, store_marks, store_handles}
+use Rattle.marks.specs.Store.{mark_by, store_marks}
+use Rattle.records.specs.View.{store_handles}
 
 -- ---- handles
 
@@ -21,11 +22,6 @@ handles-append m n w i [] ys = rw add-zero
 handles-append m n w i (x ∷ xs) ys =
     let e : i + 1 + length xs ≡ i + suc (length xs) = omega arith in
     rw (← e) (handles-append (set m (slot n w i) x) n w (i + 1) xs ys)
-
-pub length-handles : (m : List ℕ) (n w i : ℕ) (xs : List ℕ) → length (store_handles m n w i xs) ≡ length m
-unfolding store_handles
-length-handles m n w i [] = refl
-length-handles m n w i (x ∷ xs) = length-handles (set m (slot n w i) x) n w (i + 1) xs ∙ length-set m (slot n w i) x
 
 -- a word that is none of the queue's
 pub handles-other : (m : List ℕ) (n w i : ℕ) (xs : List ℕ) (j : ℕ) → ((p : ℕ) → j ≢ slot n w p) → get_or (store_handles m n w i xs) j 0 ≡ get_or m j 0

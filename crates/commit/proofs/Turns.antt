@@ -20,9 +20,11 @@ use Rattle.records.specs.View.{space_words, at, record_by, ring}
 use Rattle.records.proofs.Laws.{at_slots, queue-at, record-by, record-handle, standing-mark}
 use Rattle.records.proofs.Rings.{places-apart, ring-snoc, length-ring}
 use Rattle.marks.specs.Marks.{flagged, acked_mark, mark_acked, mark_settled, held_at, acked_at, settled_at, is_newly, newly_of, standing_of, handles_of}
-use Rattle.marks.specs.Store.{mark_by, store_marks, store_handles}
+use Rattle.marks.specs.Store.{mark_by, store_marks}
+use Rattle.records.specs.View.{store_handles}
 use Rattle.commit.specs.Commit.{newly_handles, gone_handles, settled_marks, committed, queues_after, Committed}
-use Rattle.commit.specs.Turn.{entry, remark, stamped, is_new, is_gone, Stored, Turned}
+use Rattle.commit.specs.Turn.{entry, remark, stamped, is_new, is_gone, Turned}
+use Rattle.records.specs.Probes.{StoredFrom}
 use Rattle.commit.specs.declared.Queues.{Queues}
 use Rattle.commit.proofs.Storing.{handles-append, handles-other, handles-set, handles-queues, mark-record, marks-append, marks-other}
 
@@ -61,7 +63,7 @@ standing-snoc [] r = refl
 standing-snoc (x ∷ l) r = kept_append (standing x) x (standing_of l) (standing_of (l ++ (r ∷ []))) (cond (standing r) (r ∷ []) []) (standing-snoc l r)
 
 -- ---- one place more
-module _ (m : List ℕ) (n head : ℕ) (fs : List ℕ) (i : ℕ) where
+module _ (m : List ℕ) (n head : ℕ) (fs : List Bool) (i : ℕ) where
   abbrev old_mark : ℕ
   old_mark = get_or m (at n (head + i) 5) 0
 
@@ -75,7 +77,7 @@ module _ (m : List ℕ) (n head : ℕ) (fs : List ℕ) (i : ℕ) where
   unfolding record_by
   by-handle w = refl
 
-  pub newly-step : newly_handles m n head fs (i + 1) ≡ newly_handles m n head fs i ++ entry (is_new (get_or fs i 0) old_mark) old_handle
+  pub newly-step : newly_handles m n head fs (i + 1) ≡ newly_handles m n head fs i ++ entry (is_new (get_or fs i false) old_mark) old_handle
   newly-step =
       let bs = ring (flagged fs) 0 i in
       let l = ring (held_at m n head) 0 i in
@@ -180,13 +182,13 @@ turn-words m n k a l xs ys x y b v =
     ∙ sym (handles-append (store_handles z n 0 a (xs ++ x)) n 1 l ys y)
 
 -- what a turn stores, with the record's words named
-told : (m after : List ℕ) (n k i flag from stop keep stamp : ℕ) (q r : Queues) (mark handle : ℕ) → get_or m (at n k 5) 0 ≡ mark → get_or m (at n k 4) 0 ≡ handle →
+told : (m after : List ℕ) (n k i : ℕ) (flag : Bool) (from stop keep stamp : ℕ) (q r : Queues) (mark handle : ℕ) → get_or m (at n k 5) 0 ≡ mark → get_or m (at n k 4) 0 ≡ handle →
     Turned m n k i flag from stop keep stamp q after r →
     (after
     ≡ store_handles
-    (store_handles (remark (leb keep i) m n k (stamped (ltb i stop) stamp (acked_mark (eqb flag 1) mark))) n 0 q.acked (entry (is_new flag mark) handle))
-    n 1 q.lost (entry (is_gone i from stop (acked_mark (eqb flag 1) mark)) handle))
-    × ((r.acked ≡ q.acked + length (entry (is_new flag mark) handle)) × (r.lost ≡ q.lost + length (entry (is_gone i from stop (acked_mark (eqb flag 1) mark)) handle)))
+    (store_handles (remark (leb keep i) m n k (stamped (ltb i stop) stamp (acked_mark flag mark))) n 0 q.acked (entry (is_new flag mark) handle))
+    n 1 q.lost (entry (is_gone i from stop (acked_mark flag mark)) handle))
+    × ((r.acked ≡ q.acked + length (entry (is_new flag mark) handle)) × (r.lost ≡ q.lost + length (entry (is_gone i from stop (acked_mark flag mark)) handle)))
 told m after n k i flag from stop keep stamp q r mark handle e d t = (rw (e, d) at t.memory, (rw (e, d) at t.acked, rw (e, d) at t.lost))
 
 entry-short : (b : Bool) (h : ℕ) → length (entry b h) ≤ 1
@@ -198,19 +200,19 @@ entry-short true h = by (eqb h 0)
 entry-short false h = omega arith
 
 -- a turn queues one handle at most
-pub turn-acked : (m after : List ℕ) (n k i flag from stop keep stamp : ℕ) (q r : Queues) → Turned m n k i flag from stop keep stamp q after r → r.acked ≤ q.acked + 1
-turn-acked m after n k i flag from stop keep stamp q r t =
+pub turn_acked : (m after : List ℕ) (n k i : ℕ) (flag : Bool) (from stop keep stamp : ℕ) (q r : Queues) → Turned m n k i flag from stop keep stamp q after r → r.acked ≤ q.acked + 1
+turn_acked m after n k i flag from stop keep stamp q r t =
     omega (arith, t.acked, entry-short (is_new flag (get_or m (at n k 5) 0)) (get_or m (at n k 4) 0))
 
-pub turn-lost : (m after : List ℕ) (n k i flag from stop keep stamp : ℕ) (q r : Queues) → Turned m n k i flag from stop keep stamp q after r → r.lost ≤ q.lost + 1
-turn-lost m after n k i flag from stop keep stamp q r t =
-    omega (arith, t.lost, entry-short (is_gone i from stop (acked_mark (eqb flag 1) (get_or m (at n k 5) 0))) (get_or m (at n k 4) 0))
+pub turn_lost : (m after : List ℕ) (n k i : ℕ) (flag : Bool) (from stop keep stamp : ℕ) (q r : Queues) → Turned m n k i flag from stop keep stamp q after r → r.lost ≤ q.lost + 1
+turn_lost m after n k i flag from stop keep stamp q r t =
+    omega (arith, t.lost, entry-short (is_gone i from stop (acked_mark flag (get_or m (at n k 5) 0))) (get_or m (at n k 4) 0))
 
 queues : (q : Queues) (a l : ℕ) → q.acked ≡ a → q.lost ≡ l → q ≡ record { acked = a; lost = l }
 queues q a l e d = ap (λ (x : ℕ). record { acked = x; lost = q.lost }) e ∙ ap (λ (x : ℕ). record { acked = a; lost = x }) d
 
 -- ---- all turns
-module _ (m : List ℕ) (n head : ℕ) (fs : List ℕ) (from stop keep : ℕ) (time : Moment) (acked lost : ℕ) where
+module _ (m : List ℕ) (n head : ℕ) (fs : List Bool) (from stop keep : ℕ) (time : Moment) (acked lost : ℕ) where
   abbrev newly : ℕ → List ℕ
   newly i = newly_handles m n head fs i
 
@@ -235,8 +237,8 @@ module _ (m : List ℕ) (n head : ℕ) (fs : List ℕ) (from stop keep : ℕ) (t
       ∙ handles-other (marks i) n 0 acked (newly i) (at n (head + i) j) (λ p. queue-at n n (head + i) 0 p j lj)
       ∙ marks-word m n head fs i stop keep time j lt lj
 
-  pub state-turn : (i : ℕ) → i < capacity → (before after : List ℕ) (k flag raw stamp : ℕ) (q r : Queues) →
-      State i before q → k % capacity ≡ (head + i) % capacity → flag ≡ get_or fs i 0 → ltb i raw ≡ ltb i stop → stamp ≡ 2 * (time.0 + 1) →
+  pub state-turn : (i : ℕ) → i < capacity → (before after : List ℕ) (k : ℕ) (flag : Bool) (raw stamp : ℕ) (q r : Queues) →
+      State i before q → k % capacity ≡ (head + i) % capacity → flag ≡ get_or fs i false → ltb i raw ≡ ltb i stop → stamp ≡ 2 * (time.0 + 1) →
       Turned before n k i flag from raw keep stamp q after r → State (i + 1) after r
   unfolding mark_settled mark_acked
   state-turn i lt before after k flag raw stamp q r s ek ef er es t =
@@ -247,18 +249,18 @@ module _ (m : List ℕ) (n head : ℕ) (fs : List ℕ) (from stop keep : ℕ) (t
       let h4 : get_or before (at n k 4) 0 ≡ h =
       ap (λ (l : List ℕ). get_or l (at n k 4) 0) s.memory ∙ ap (λ (p : ℕ). get_or (state_at i) (space_words * (n % 3) + (6 * p + 4)) 0) ek ∙ state-word i 4 lt (omega arith) in
       let u = told before after n k i flag from raw keep stamp q r o h h5 h4 t in
-      let x = entry (is_new (get_or fs i 0) o) h in
+      let x = entry (is_new (get_or fs i false) o) h in
       let y = entry (is_gone i from stop (mark_acked m n head fs i)) h in
       let v = mark_settled m n head fs stop time i in
-      let ex : entry (is_new flag o) h ≡ x = ap (λ (g : ℕ). entry (is_new g o) h) ef in
-      let ey : entry (is_gone i from raw (acked_mark (eqb flag 1) o)) h ≡ y =
-      ap (λ (g : ℕ). entry (is_gone i from raw (acked_mark (eqb g 1) o)) h) ef
+      let ex : entry (is_new flag o) h ≡ x = ap (λ (g : Bool). entry (is_new g o) h) ef in
+      let ey : entry (is_gone i from raw (acked_mark flag o)) h ≡ y =
+      ap (λ (g : Bool). entry (is_gone i from raw (acked_mark g o)) h) ef
       ∙ ap (λ (b : Bool). entry (leb from i && (b && eqb (mark_acked m n head fs i) 0)) h) er in
-      let ev : stamped (ltb i raw) stamp (acked_mark (eqb flag 1) o) ≡ v =
-      ap (λ (g : ℕ). stamped (ltb i raw) stamp (acked_mark (eqb g 1) o)) ef
+      let ev : stamped (ltb i raw) stamp (acked_mark flag o) ≡ v =
+      ap (λ (g : Bool). stamped (ltb i raw) stamp (acked_mark g o)) ef
       ∙ ap (λ (b : Bool). stamped b stamp (mark_acked m n head fs i)) er
       ∙ ap (λ (p : ℕ). stamped (ltb i stop) p (mark_acked m n head fs i)) es in
-      let em : remark (leb keep i) before n k (stamped (ltb i raw) stamp (acked_mark (eqb flag 1) o)) ≡ remark (leb keep i) (state_at i) n (head + i) v =
+      let em : remark (leb keep i) before n k (stamped (ltb i raw) stamp (acked_mark flag o)) ≡ remark (leb keep i) (state_at i) n (head + i) v =
       ap (remark (leb keep i) before n k) ev
       ∙ ap (λ (l : List ℕ). remark (leb keep i) l n k v) s.memory
       ∙ ap (λ (p : ℕ). cond (leb keep i) (set (state_at i) (space_words * (n % 3) + (6 * p + 5)) v) (state_at i)) ek in
@@ -268,8 +270,8 @@ module _ (m : List ℕ) (n head : ℕ) (fs : List ℕ) (from stop keep : ℕ) (t
       record {
         memory =
             u.0
-            ∙ ap (λ (l : List ℕ). store_handles (store_handles l n 0 q.acked (entry (is_new flag o) h)) n 1 q.lost (entry (is_gone i from raw (acked_mark (eqb flag 1) o)) h)) em
-            ∙ ap (λ (l : List ℕ). store_handles (store_handles (remark (leb keep i) (state_at i) n (head + i) v) n 0 q.acked l) n 1 q.lost (entry (is_gone i from raw (acked_mark (eqb flag 1) o)) h)) ex
+            ∙ ap (λ (l : List ℕ). store_handles (store_handles l n 0 q.acked (entry (is_new flag o) h)) n 1 q.lost (entry (is_gone i from raw (acked_mark flag o)) h)) em
+            ∙ ap (λ (l : List ℕ). store_handles (store_handles (remark (leb keep i) (state_at i) n (head + i) v) n 0 q.acked l) n 1 q.lost (entry (is_gone i from raw (acked_mark flag o)) h)) ex
             ∙ ap (λ (l : List ℕ). store_handles (store_handles (remark (leb keep i) (state_at i) n (head + i) v) n 0 q.acked x) n 1 q.lost l) ey
             ∙ ap (λ (p : ℕ). store_handles (store_handles (remark (leb keep i) (state_at i) n (head + i) v) n 0 p x) n 1 q.lost y) s.next_acked
             ∙ ap (λ (p : ℕ). store_handles (store_handles (remark (leb keep i) (state_at i) n (head + i) v) n 0 (acked + length (newly i)) x) n 1 p y) s.next_lost
@@ -349,21 +351,17 @@ module _ (m : List ℕ) (n head : ℕ) (fs : List ℕ) (from stop keep : ℕ) (t
 -- ---- the turns of the code: what it is given may be any numbers
 
 -- one turn's stores make the whole turn
-pub turn-made : (m m₁ m₂ m₃ : List ℕ) (n k i flag from stop keep stamp : ℕ) (q : Queues) (mark handle acked settled a l : ℕ) (new gone : Bool) →
-    mark ≡ get_or m (at n k 5) 0 → handle ≡ get_or m (at n k 4) 0 → acked ≡ acked_mark (eqb flag 1) mark → settled ≡ stamped (ltb i stop) stamp acked →
+pub turn_made : (m m₁ m₂ m₃ : List ℕ) (n k i : ℕ) (flag : Bool) (from stop keep stamp : ℕ) (q : Queues) (mark handle acked settled a l : ℕ) (new gone : Bool) →
+    mark ≡ get_or m (at n k 5) 0 → handle ≡ get_or m (at n k 4) 0 → acked ≡ acked_mark flag mark → settled ≡ stamped (ltb i stop) stamp acked →
     new ≡ is_new flag mark → gone ≡ is_gone i from stop acked →
-    m₁ ≡ remark (leb keep i) m n k settled → Stored m₁ n 0 q.acked (entry new handle) m₂ a → Stored m₂ n 1 q.lost (entry gone handle) m₃ l →
+    m₁ ≡ remark (leb keep i) m n k settled → StoredFrom m₁ n 0 q.acked (entry new handle) a m₂ → StoredFrom m₂ n 1 q.lost (entry gone handle) l m₃ →
     Turned m n k i flag from stop keep stamp q m₃ (record { acked = a; lost = l })
-turn-made m m₁ m₂ m₃ n k i flag from stop keep stamp q mark handle acked settled a l new gone em eh ea es en eg e₁ s t =
+turn_made m m₁ m₂ m₃ n k i flag from stop keep stamp q mark handle acked settled a l new gone em eh ea es en eg e₁ s t =
     record {
       memory = t.memory ∙ rw (s.memory, e₁, es, en, eg, ea, em, eh);
-      acked = s.next ∙ rw (en, em, eh);
-      lost = t.next ∙ rw (eg, ea, em, eh);
+      acked = s.count ∙ rw (en, em, eh);
+      lost = t.count ∙ rw (eg, ea, em, eh);
     }
-
--- a turn less is left
-pub falls : (count i : ℕ) → i < count → count - (i + 1) < count - i
-falls count i lt = omega arith
 
 below-min : (i a b : ℕ) → i < b → ltb i a ≡ ltb i (min a b)
 below-min i a b lt = ⊎_elim
@@ -371,12 +369,12 @@ below-min i a b lt = ⊎_elim
     (λ p. let x : i < a = omega arith in let y : i < min a b = omega arith in lt-ltb i a x ∙ sym (lt-ltb i (min a b) y))
     (eq-zero-or-pos (a - i))
 
-pub flag-past : (c i : ℕ) (fs : List ℕ) → c ≤ i → flagged (take c fs) i ≡ false
+pub flag-past : (c i : ℕ) (fs : List Bool) → c ≤ i → flagged (take c fs) i ≡ false
 flag-past c i fs le =
     let l : length (take c fs) ≤ i = omega (arith, length-take c fs) in
-    ap (λ (x : ℕ). eqb x 1) (get_or-eq_default (take c fs) 0 l)
+    get_or-eq_default (take c fs) false l
 
-module _ (m : List ℕ) (n head len : ℕ) (fs : List ℕ) (last from stop keep stamp acked lost : ℕ) where
+module _ (m : List ℕ) (n head len : ℕ) (fs : List Bool) (last from stop keep stamp acked lost : ℕ) where
   abbrev k : ℕ
   k = min len capacity
 
@@ -384,20 +382,20 @@ module _ (m : List ℕ) (n head len : ℕ) (fs : List ℕ) (last from stop keep 
   abbrev pub After : ℕ → List ℕ → Queues → Type 0
   After i l q = State m n head (take (max last stop) fs) from (min stop k) keep (moment (stamp / 2 - 1)) (min acked capacity) (min lost capacity) i l q
 
-  pub after-start : (q : Queues) → q.acked ≡ min acked capacity → q.lost ≡ min lost capacity → After 0 m q
-  after-start q ea el = state-start m n head (take (max last stop) fs) from (min stop k) keep (moment (stamp / 2 - 1)) (min acked capacity) (min lost capacity) q ea el
+  pub after_start : (q : Queues) → q.acked ≡ min acked capacity → q.lost ≡ min lost capacity → After 0 m q
+  after_start q ea el = state-start m n head (take (max last stop) fs) from (min stop k) keep (moment (stamp / 2 - 1)) (min acked capacity) (min lost capacity) q ea el
 
   pub after_turn : (t count i : ℕ) (before after : List ℕ) (q r : Queues) → stamp ≡ 2 * (t + 1) → count ≡ min (max last stop) k → i < count →
-      After i before q → Turned before n (head % capacity + i) i (get_or fs i 0) from stop keep stamp q after r → After (i + 1) after r
+      After i before q → Turned before n (head % capacity + i) i (get_or fs i false) from stop keep stamp q after r → After (i + 1) after r
   after_turn t count i before after q r es ec lt s turn =
       let a : i < k = omega arith in
       let b : i < max last stop = omega arith in
       state-turn m n head (take (max last stop) fs) from (min stop k) keep (moment (stamp / 2 - 1)) (min acked capacity) (min lost capacity) i (omega arith) before after
-      (head % capacity + i) (get_or fs i 0) stop stamp q r s (mod-add-mod head capacity i) (sym (get_or-take (max last stop) fs i 0 b)) (below-min i stop k a) (omega arith) turn
+      (head % capacity + i) (get_or fs i false) stop stamp q r s (mod-add-mod head capacity i) (sym (get_or-take (max last stop) fs i false b)) (below-min i stop k a) (omega arith) turn
 
-  pub after-end : (time : Moment) (count i : ℕ) (l : List ℕ) (q : Queues) → stamp ≡ 2 * (min time.0 limit + 1) → count ≡ min (max last stop) k → i ≤ count → count ≤ i →
+  pub after_end : (time : Moment) (count i : ℕ) (l : List ℕ) (q : Queues) → stamp ≡ 2 * (min time.0 limit + 1) → count ≡ min (max last stop) k → i ≤ count → count ≤ i →
       After i l q → Committed m n head len fs last from stop keep time acked lost l q
-  after-end time count i l q es ec le ge s =
+  after_end time count i l q es ec le ge s =
       let e = state-end m n head (take (max last stop) fs) from (min stop k) keep (moment (stamp / 2 - 1)) (min acked capacity) (min lost capacity) k (omega arith) i l q
       (omega arith) (omega arith) (λ j a b. flag-past (max last stop) j fs (omega arith)) s in
       let t : stamp / 2 - 1 ≡ min time.0 limit = omega arith in

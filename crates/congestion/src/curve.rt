@@ -12,6 +12,7 @@ const C: f64 = 0.4;
 const ONE_PLUS_BETA: f64 = 1.7;
 
 // The window on the curve at so many seconds, in bytes. 01 CUBIC; 001 w_cubic; RFC 9438 section 4.2, figure 1
+#[tactic(auto, unfolding(model::specs::Cubic::curve))]
 pub fn w_cubic(seconds: f64, k: f64, w_max: f64, size: f64) -> f64
     ensures { result ≡ cubic.curve seconds k w_max size }
 {
@@ -20,6 +21,7 @@ pub fn w_cubic(seconds: f64, k: f64, w_max: f64, size: f64) -> f64
 }
 
 // What acked bytes add to w_est. 01 CUBIC; 001 w_est_inc; RFC 9438 section 4.3, figure 4
+#[tactic(auto, unfolding(model::specs::Cubic::w_est_step))]
 pub fn w_est_inc(alpha_aimd: f64, acked: f64, window: f64, size: f64) -> f64
     ensures { result ≡ cubic.w_est_step alpha_aimd acked window size }
 {
@@ -27,6 +29,7 @@ pub fn w_est_inc(alpha_aimd: f64, acked: f64, window: f64, size: f64) -> f64
 }
 
 // What K is the cube root of. 01 CUBIC; 001 cubic_k; RFC 9438 section 4.2, figure 2
+#[tactic(auto, unfolding(model::specs::Cubic::k_argument))]
 pub fn cubic_k_argument(w_max: f64, window: f64, size: f64) -> f64
     ensures { result ≡ cubic.k_argument w_max window size }
 {
@@ -34,6 +37,7 @@ pub fn cubic_k_argument(w_max: f64, window: f64, size: f64) -> f64
 }
 
 // The whole part of 0.7 × n. 01 CUBIC; 001 congestion_event
+#[tactic(auto, unfolding(model::specs::Cubic::times_beta))]
 pub fn times_beta(n: u64) -> u64
     ensures { result ≡ cubic.times_beta n }
 {
@@ -41,12 +45,14 @@ pub fn times_beta(n: u64) -> u64
 }
 
 // The larger of two floats; of a number and no number, the number. 001 on_packet_acked
+#[tactic(auto, unfolding(model::specs::Cubic::larger))]
 pub fn larger(a: f64, b: f64) -> f64
     ensures { result ≡ cubic.larger a b }
 {
     if b <= a { a } else { b }
 }
 
+#[tactic(auto, unfolding(model::specs::Cubic::smaller))]
 pub fn smaller(a: f64, b: f64) -> f64
     ensures { result ≡ cubic.smaller a b }
 {

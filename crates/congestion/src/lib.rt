@@ -2,15 +2,8 @@
 // No public function has a `requires`; each claims its whole answer, for every argument.
 #![tactic(auto)]
 
-use model::{Congestion, Refusal};
+use model::Congestion;
 
 pub mod curve;
 pub mod growth;
 pub mod recovery;
-
-// The controller after a move, or the refusal that ends the event.
-#[derive(Clone, Copy)]
-pub enum Moved {
-    Accepted(Congestion),
-    Refused(Refusal),
-}

@@ -5,23 +5,22 @@ use mathlib.Core.List.{List}
 use Prim.Native.Nat.{ℕ, ◌+◌, ◌-◌, ◌<◌, ◌≤◌, ◌%◌}
 use native.Mathlib.Omega.{arith}
 use Rattle.arith.specs.declared.time.Moment.{Moment}
-use Rattle.arith.specs.declared.time.Sum.{Sum}
-use Rattle.arith.specs.declared.time.Sum.TheVariants.{Fine, Over}
 use Rattle.model.specs.Control.{Move}
-use Rattle.model.specs.Numbers.{Result, accepted, refused, then, must, reach, capacity}
+use Rattle.arith.specs.Refusals.{then, must}
+use Rattle.model.specs.Numbers.{capacity}
 use Rattle.model.specs.Connection.{Space, Connection, space_at, with_space, with_timer}
 use Rattle.model.specs.Events.{Step}
 use Rattle.model.specs.Timer.{timer_of}
 use Rattle.model.specs.declared.HandshakeStatus.{HandshakeStatus}
-use Rattle.model.specs.declared.Refusal.{Refusal}
+use Rattle.arith.specs.declared.refusal.Refusal.{Refusal}
 use Rattle.model.specs.declared.Shared.{Shared}
-use Rattle.model.specs.declared.Time.{Time}
 use Rattle.records.proofs.Laws.{length-records, length-queue}
 use Rattle.connection.specs.View.{count, space_of, connection_of, space_state_at, with_space_state, placed_by, state_by, Does}
 use Rattle.connection.specs.Steps.{armed, timed_state}
 use Rattle.connection.specs.declared.SpaceState.{SpaceState}
 use Rattle.connection.specs.declared.State.{State}
 use Rattle.connection.proofs.Views.{by-space}
+use Rattle.std.specs.Prelude.{Result, Ok, Err, Option}
 
 -- ---- where a space lies
 
@@ -62,7 +61,7 @@ placed-view m s stored p shared =
     (λ f. ap (λ (x : SpaceState). with_space_state 2 x shared s) (placed-self m 2 s.application stored p f))
 
 -- a timer changes no space
-pub armed-space : (t : Time) (s : State) (p : SpaceState) (shared : Shared) (n : ℕ) → n < 3 → armed t (with_space_state n p shared s) ≡ with_space_state n p (with_timer t shared) s
+pub armed-space : (t : Option Moment) (s : State) (p : SpaceState) (shared : Shared) (n : ℕ) → n < 3 → armed t (with_space_state n p shared s) ≡ with_space_state n p (with_timer t shared) s
 unfolding armed with_space_state
 armed-space t s p shared = by-space (λ n. armed t (with_space_state n p shared s) ≡ with_space_state n p (with_timer t shared) s) refl refl refl
 
@@ -76,31 +75,27 @@ whole-view m s p new =
 
 -- ---- what holds of each accepted answer
 
-abbrev pub Each : {A : Type 0} → (A → Type 0) → Result A → Type 0
-Each P r = (a : _) → r ≡ accepted a → P a
+abbrev pub Each : {A : Type 0} → (A → Type 0) → Result A Refusal → Type 0
+Each P r = (a : _) → r ≡ Ok a → P a
 
-none-accepted : {A : Type 0} {k : Refusal} {a : A} → refused k ≡ accepted a → ⊥
+none-accepted : {A : Type 0} {k : Refusal} {a : A} → Err k ≡ Ok a → ⊥
 none-accepted e = let z : ◌≡◌ {A = ℕ} 0 1 = cc in omega arith
 
 module _ {A : Type 0} (P : A → Type 0) where
-  pub one_each : (a : A) → P a → Each P (accepted a)
+  pub one_each : (a : A) → P a → Each P (Ok a)
   one_each a p b e = let z : a ≡ b = cc in subst P z p
 
-  pub must-each : (b : Bool) (k : Refusal) (r : Result A) → (b ≡ true → Each P r) → Each P (must b k r)
+  pub must-each : (b : Bool) (k : Refusal) (r : Result A Refusal) → (b ≡ true → Each P r) → Each P (must b k r)
   must-each true k r h = h refl
   must-each false k r h = λ a e. absurd (none-accepted e)
 
-  pub reach-each : (x : Sum) (r : ℕ → Result A) → ((n : ℕ) → Each P (r n)) → Each P (reach x r)
-  reach-each (Fine n) r h = h n
-  reach-each Over r h = λ a e. absurd (none-accepted e)
-
-  pub cond-each : (b : Bool) (r q : Result A) → Each P r → Each P q → Each P (cond b r q)
+  pub cond-each : (b : Bool) (r q : Result A Refusal) → Each P r → Each P q → Each P (cond b r q)
   cond-each true r q g h = g
   cond-each false r q g h = h
 
-  pub then-each : {B : Type 0} (x : Result B) (f : B → Result A) → ((b : B) → Each P (f b)) → Each P (then x f)
-  then-each (accepted b) f h = h b
-  then-each (refused k) f h = λ a e. absurd (none-accepted e)
+  pub then-each : {B : Type 0} (x : Result B Refusal) (f : B → Result A Refusal) → ((b : B) → Each P (f b)) → Each P (then x f)
+  then-each (Ok b) f h = h b
+  then-each (Err k) f h = λ a e. absurd (none-accepted e)
 
 -- a state that lies where an event in space n leaves it
 abbrev pub Placed : List ℕ → State → ℕ → ℕ → State → Type 0
@@ -116,10 +111,10 @@ timed-placed m s stored now status p shared n nn f =
 -- ---- what an event claims, from its step
 
 module _ {A : Type 0} (m : List ℕ) (s : State) (place : Connection → State) (words : Connection → List ℕ) where
-  pub does-refused : (d : Result (Step A)) (k : Refusal) → d ≡ refused k → Does d (refused k) m m s s place words
+  pub does-refused : (d : Result (Step A) Refusal) (k : Refusal) → d ≡ Err k → Does d (Err k) m m s s place words
   does-refused d k e = rw e (record { answer = refl; leaves = record { state = refl; memory = refl } })
 
-  pub does-accepted : (d : Result (Step A)) (m' : List ℕ) (t : State) (a : A) (moves : List Move) →
-      d ≡ accepted (record { state = connection_of m' t; answer = a; moves = moves }) →
-      t ≡ place (connection_of m' t) → m' ≡ words (connection_of m' t) → Does d (accepted a) m m' s t place words
+  pub does-accepted : (d : Result (Step A) Refusal) (m' : List ℕ) (t : State) (a : A) (moves : List Move) →
+      d ≡ Ok (record { state = connection_of m' t; answer = a; moves = moves }) →
+      t ≡ place (connection_of m' t) → m' ≡ words (connection_of m' t) → Does d (Ok a) m m' s t place words
   does-accepted d m' t a moves e p w = rw e (record { answer = refl; leaves = record { stands = refl; placed = p; stored = w } })

@@ -10,15 +10,15 @@ use lib.ListN.{length}
 use borrow.Author.Tests.{ltb-true}
 use Rattle.arith.specs.Whole.{sum_of}
 use Rattle.arith.specs.declared.time.Moment.{Moment}
-use Rattle.model.specs.Numbers.{Result, accepted, refused, then, reach, on_clock, capacity}
+use Rattle.arith.specs.Refusals.{then}
+use Rattle.model.specs.Numbers.{on_clock, capacity}
 use Rattle.model.specs.Timer.{timer_of}
 use Rattle.model.specs.Connection.{Connection, with_space, with_shared, with_timer, facts_of, timed}
 use Rattle.model.specs.Events.{Step, is_packet, is_newer, run_after, space_sent, shared_sent, sent_in_flight, sent_aside, on_packet_sent}
 use Rattle.model.specs.declared.HandshakeStatus.{HandshakeStatus}
 use Rattle.model.specs.declared.Packet.{Packet}
-use Rattle.model.specs.declared.Refusal.TheVariants.{Clock, Domain, Stale, Full}
+use Rattle.arith.specs.declared.refusal.Refusal.TheVariants.{Clock, Domain, Stale, Full}
 use Rattle.model.specs.declared.Shared.{Shared}
-use Rattle.model.specs.declared.Time.{Time}
 use Rattle.records.specs.View.{all_words, store_record}
 use Rattle.records.proofs.Laws.{records-mod, records-push, length-records, store-record-space, store-record-queue}
 use Rattle.connection.specs.View.{count, space_of, connection_of, normal_of, space_state_at, with_space_state}
@@ -27,6 +27,8 @@ use Rattle.connection.specs.declared.SpaceState.{SpaceState}
 use Rattle.connection.specs.declared.State.{State}
 use Rattle.connection.proofs.Results.{must-then, reach-then, cond-then}
 use Rattle.connection.proofs.Views.{space-view, state-view}
+use Rattle.std.specs.Prelude.{Result, Ok, Err, Option}
+use Rattle.arith.specs.declared.refusal.Refusal.{Refusal}
 
 count-twice : (n : ℕ) → count (count n) ≡ count n
 count-twice n = omega arith
@@ -39,28 +41,28 @@ normal-view m n s =
 
 -- the timer
 pub timed-view : (m : List ℕ) (now : Moment) (status : HandshakeStatus) (s : State) →
-    timed now status (connection_of m s) ≡ then (timed_state now status s) (λ t. accepted (connection_of m t))
+    timed now status (connection_of m s) ≡ then (timed_state now status s) (λ t. Ok (connection_of m t))
 unfolding timed timed_state facts_of facts_state connection_of armed
 timed-view m now status s = go (timer_of (facts_state now status s))
   where
-    go : (x : Result Time) →
-        then x (λ t. accepted (with_shared (with_timer t s.shared) (connection_of m s)))
-        ≡ then (then x (λ t. accepted (armed t s))) (λ t. accepted (connection_of m t))
-    go (accepted t) = refl
-    go (refused n) = refl
+    go : (x : Result (Option Moment) Refusal) →
+        then x (λ t. Ok (with_shared (with_timer t s.shared) (connection_of m s)))
+        ≡ then (then x (λ t. Ok (armed t s))) (λ t. Ok (connection_of m t))
+    go (Ok t) = refl
+    go (Err n) = refl
 
 -- an event without moves that ends in the timer
 module _ (m : List ℕ) (now : Moment) (status : HandshakeStatus) where
-  abbrev pub done_step : Connection → Result (Step ℕ)
-  done_step c = accepted (record { state = c; answer = 0; moves = [] })
+  abbrev pub done_step : Connection → Result (Step ℕ) Refusal
+  done_step c = Ok (record { state = c; answer = 0; moves = [] })
 
   pub timed-step : (c : Connection) (s : State) → c ≡ connection_of m s →
       then (timed now status c) done_step ≡ then (timed_state now status s) (λ t. done_step (connection_of m t))
   timed-step c s e = rw (e, timed-view m now status s) (go (timed_state now status s))
     where
-      go : (x : Result State) → then (then x (λ t. accepted (connection_of m t))) done_step ≡ then x (λ t. done_step (connection_of m t))
-      go (accepted t) = refl
-      go (refused n) = refl
+      go : (x : Result State Refusal) → then (then x (λ t. Ok (connection_of m t))) done_step ≡ then x (λ t. done_step (connection_of m t))
+      go (Ok t) = refl
+      go (Err n) = refl
 
 -- ---- sent
 
@@ -74,8 +76,8 @@ packet-space n p e = ltb-true n 3 (first (ltb n 3) _ e)
     first false b e = e
 
 -- the accepted state with the words that the event leaves
-abbrev pub sent_step : List ℕ → State → Result (Step ℕ)
-sent_step m s = accepted (record { state = connection_of m s; answer = 0; moves = [] })
+abbrev pub sent_step : List ℕ → State → Result (Step ℕ) Refusal
+sent_step m s = Ok (record { state = connection_of m s; answer = 0; moves = [] })
 
 module _ (m : List ℕ) (full : length m ≡ all_words) (now : Moment) (n : ℕ) (p : Packet) (status : HandshakeStatus) (s : State) where
   abbrev q : SpaceState
@@ -126,8 +128,8 @@ module _ (m : List ℕ) (full : length m ≡ all_words) (now : Moment) (n : ℕ)
   sent-flying : n < 3 → count q.len < capacity → (run : ℕ) →
       sent_in_flight now n p status run (connection_of m s)
       ≡ then
-      (reach (sum_of q.epoch.in_flight_count 1) λ in_flight.
-      reach (sum_of s.shared.bytes_in_flight p.size) λ bytes.
+      (then (sum_of q.epoch.in_flight_count 1) λ in_flight.
+      then (sum_of s.shared.bytes_in_flight p.size) λ bytes.
       timed_state now status (with_space_state n (sent_space now p in_flight (normal_of q)) (shared_sent now run bytes s.shared) s))
       (sent_step m')
   unfolding sent_in_flight connection_of

@@ -31,9 +31,9 @@ module _ (m : List ℕ) (s : State) where
   space-view = by-space (λ n. space_at n (connection_of m s) ≡ space_of m n (space_state_at n s)) refl refl refl
 
   -- whatever the number, what the space keeps beside its records and queues is the state's
-  pub epoch-view : (n : ℕ) → (space_at n (connection_of m s)).epoch ≡ (space_state_at n s).epoch
+  pub epoch_view : (n : ℕ) → (space_at n (connection_of m s)).epoch ≡ (space_state_at n s).epoch
   unfolding space_at connection_of space_state_at
-  epoch-view n = go (eqb n 0) (eqb n 1)
+  epoch_view n = go (eqb n 0) (eqb n 1)
     where
       go : (a b : Bool) →
           (cond a (space_of m 0 s.initial) (cond b (space_of m 1 s.handshake) (space_of m 2 s.application))).epoch
@@ -48,11 +48,11 @@ module _ (m : List ℕ) (s : State) where
   some-queued : (n w len : ℕ) → ltb 0 (length (queue_of m n w (count len))) ≡ ltb 0 len
   some-queued n w len = rw (length-queue m n w (count len)) (some-counted len)
 
-  pub lost-view : (n : ℕ) →
+  pub lost_view : (n : ℕ) →
       (ltb 0 (length (space_at n (connection_of m s)).lost_frames_ack) || ltb 0 (length (space_at n (connection_of m s)).lost_frames_pto))
       ≡ (ltb 0 (space_state_at n s).lost_ack || ltb 0 (space_state_at n s).lost_pto)
   unfolding space_at connection_of space_state_at
-  lost-view n = go (eqb n 0) (eqb n 1)
+  lost_view n = go (eqb n 0) (eqb n 1)
     where
       one : (k : ℕ) (x : SpaceState) →
           (ltb 0 (length (queue_of m k 1 (count x.lost_ack))) || ltb 0 (length (queue_of m k 2 (count x.lost_pto))))

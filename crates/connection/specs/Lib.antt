@@ -1,5 +1,4 @@
 pub mod View
 pub mod Steps
 pub mod Answers
-pub mod Decided
 pub mod Readouts

@@ -1,14 +1,12 @@
 -- What a connection lets be read of it. 01 'Timer and PTO (000)', 'RTT (002)', 'CUBIC (001)'; 000's read-outs. Definitions only.
-use Rattle.std.specs.Prelude.{ℕ, Bool, cond, ◌||◌, ltb, length}
+use Rattle.std.specs.Prelude.{ℕ, Bool, cond, ◌||◌, ltb, length, Result, Option, Some, None}
 use Rattle.arith.specs.declared.time.Span.{Span}
-use Rattle.model.specs.Numbers.{Result}
 use Rattle.model.specs.Timer.{pto_of, elicits, available}
 use Rattle.model.specs.Connection.{Connection, space_at}
 use Rattle.model.specs.declared.Epoch.{Epoch}
-use Rattle.model.specs.declared.Number.{Number}
 use Rattle.model.specs.declared.Rtt.{Rtt}
-use Rattle.model.specs.declared.Time.{Time}
-use Rattle.connection.specs.declared.readout.Sampled.{Sampled}
+use Rattle.arith.specs.declared.time.Moment.{Moment}
+use Rattle.arith.specs.declared.refusal.Refusal.{Refusal}
 
 -- ---- the window
 
@@ -32,8 +30,8 @@ max_datagram_size_of c = c.shared.max_datagram_size
 -- ---- round trips
 
 -- min and max are none before a sample (DECISIONS R1)
-abbrev pub sampled_by : Rtt → Span → Sampled
-sampled_by r x = cond r.has_first_rtt_sample (Sampled.Is x) Sampled.Unset
+abbrev pub sampled_by : Rtt → Span → Option Span
+sampled_by r x = cond r.has_first_rtt_sample (Some x) None
 
 abbrev pub rtt_of : Connection → Span
 rtt_of c = c.shared.rtt.smoothed_rtt
@@ -44,19 +42,19 @@ latest_rtt_of c = c.shared.rtt.latest_rtt
 abbrev pub rttvar_of : Connection → Span
 rttvar_of c = c.shared.rtt.rttvar
 
-abbrev pub min_rtt_of : Connection → Sampled
+abbrev pub min_rtt_of : Connection → Option Span
 min_rtt_of c = sampled_by c.shared.rtt c.shared.rtt.min_rtt
 
-abbrev pub max_rtt_of : Connection → Sampled
+abbrev pub max_rtt_of : Connection → Option Span
 max_rtt_of c = sampled_by c.shared.rtt c.shared.rtt.max_rtt
 
 -- past 2^53-1 it is too large, like the sums inside events (DECISIONS R12)
-abbrev pub pto_read_of : Connection → Result Span
+abbrev pub pto_read_of : Connection → Result Span Refusal
 pto_read_of c = pto_of c.shared.rtt
 
 -- ---- losses and the timer
 
-abbrev pub loss_detection_timer_of : Connection → Time
+abbrev pub loss_detection_timer_of : Connection → Option Moment
 loss_detection_timer_of c = c.shared.loss_timer
 
 abbrev pub pto_count_of : Connection → ℕ
@@ -82,7 +80,7 @@ loss_probes_of n c = (epoch_of n c).loss_probes
 abbrev pub in_flight_count_of : ℕ → Connection → ℕ
 in_flight_count_of n c = (epoch_of n c).in_flight_count
 
-abbrev pub largest_acked_of : ℕ → Connection → Number
+abbrev pub largest_acked_of : ℕ → Connection → Option ℕ
 largest_acked_of n c = (epoch_of n c).largest_acked_packet
 
 abbrev pub should_elicit_ack_of : ℕ → Connection → Bool

@@ -1,26 +1,24 @@
 -- Events over a state alone, for those that need nothing of the words but their counts. Definitions that serve the proofs: proofs/Steps.antt shows each to be
 -- model's event on what the words and the state stand for.
-use Rattle.std.specs.Prelude.{ℕ, ◌+◌, ◌-◌, ◌%◌, Bool, true, false, cond, ltb}
+use Rattle.std.specs.Prelude.{ℕ, ◌+◌, ◌-◌, ◌%◌, Bool, true, false, cond, ltb, Result, Ok, Option, None}
 use Rattle.arith.specs.Whole.{sum_of}
 use Rattle.arith.specs.declared.time.Moment.{Moment}
-use Rattle.arith.specs.declared.time.Sum.{Sum}
-use Rattle.arith.specs.declared.time.Sum.TheVariants.{Fine}
-use Rattle.model.specs.Numbers.{Result, accepted, then, must, reach, on_clock, is_space, are_settings, capacity}
+use Rattle.arith.specs.Refusals.{then, must}
+use Rattle.model.specs.Numbers.{on_clock, is_space, are_settings, capacity}
 use Rattle.model.specs.Timer.{timer_of}
 use Rattle.model.specs.Connection.{with_timer, epoch_fresh, shared_fresh}
 use Rattle.model.specs.Events.{is_packet, is_newer, epoch_sent, shared_sent, shared_timeout}
 use Rattle.model.specs.declared.Congestion.{Congestion}
 use Rattle.model.specs.declared.HandshakeStatus.{HandshakeStatus}
 use Rattle.model.specs.declared.Packet.{Packet}
-use Rattle.model.specs.declared.Refusal.TheVariants.{Clock, Domain, Stale, Full}
+use Rattle.arith.specs.declared.refusal.Refusal.TheVariants.{Clock, Domain, Stale, Full}
 use Rattle.model.specs.declared.Settings.{Settings}
 use Rattle.model.specs.declared.Shared.{Shared}
-use Rattle.model.specs.declared.Time.{Time}
-use Rattle.model.specs.declared.Time.TheVariants.{Unset}
 use Rattle.model.specs.declared.TimerFacts.{TimerFacts}
 use Rattle.connection.specs.View.{count, normal_of, space_state_at, with_space_state}
 use Rattle.connection.specs.declared.SpaceState.{SpaceState}
 use Rattle.connection.specs.declared.State.{State}
+use Rattle.arith.specs.declared.refusal.Refusal.{Refusal}
 
 -- ---- the timer
 
@@ -37,11 +35,11 @@ facts_state now status s =
       application = s.application.epoch;
     }
 
-unfoldable pub armed : Time → State → State
+unfoldable pub armed : Option Moment → State → State
 armed t s = record { initial = s.initial; handshake = s.handshake; application = s.application; shared = with_timer t s.shared }
 
-unfoldable pub timed_state : Moment → HandshakeStatus → State → Result State
-timed_state now status s = then (timer_of (facts_state now status s)) λ t. accepted (armed t s)
+unfoldable pub timed_state : Moment → HandshakeStatus → State → Result State Refusal
+timed_state now status s = then (timer_of (facts_state now status s)) λ t. Ok (armed t s)
 
 -- ---- sent
 
@@ -56,24 +54,24 @@ sent_space now p in_flight s =
       epoch = epoch_sent now p in_flight s.epoch;
     }
 
-abbrev pub run_state : Bool → ℕ → (ℕ → Result State) → Result State
+abbrev pub run_state : Bool → ℕ → (ℕ → Result State Refusal) → Result State Refusal
 run_state true run k = k 0
-run_state false run k = reach (sum_of run 1) k
+run_state false run k = then (sum_of run 1) k
 
 -- the run after a packet
-unfoldable pub run_of : Bool → ℕ → Sum
-run_of eliciting run = cond eliciting (Fine 0) (sum_of run 1)
+unfoldable pub run_of : Bool → ℕ → Result ℕ Refusal
+run_of eliciting run = cond eliciting (Ok 0) (sum_of run 1)
 
-unfoldable pub sent_both : Moment → ℕ → Packet → HandshakeStatus → ℕ → State → Result State
+unfoldable pub sent_both : Moment → ℕ → Packet → HandshakeStatus → ℕ → State → Result State Refusal
 sent_both now n p status run s =
     let q = normal_of (space_state_at n s) in
     cond p.in_flight
-    (reach (sum_of q.epoch.in_flight_count 1) λ in_flight.
-    reach (sum_of s.shared.bytes_in_flight p.size) λ bytes.
+    (then (sum_of q.epoch.in_flight_count 1) λ in_flight.
+    then (sum_of s.shared.bytes_in_flight p.size) λ bytes.
     timed_state now status (with_space_state n (sent_space now p in_flight q) (shared_sent now run bytes s.shared) s))
-    (accepted (with_space_state n (sent_space now p q.epoch.in_flight_count q) (shared_sent now run s.shared.bytes_in_flight s.shared) s))
+    (Ok (with_space_state n (sent_space now p q.epoch.in_flight_count q) (shared_sent now run s.shared.bytes_in_flight s.shared) s))
 
-unfoldable pub send_state : Moment → ℕ → Packet → HandshakeStatus → State → Result State
+unfoldable pub send_state : Moment → ℕ → Packet → HandshakeStatus → State → Result State Refusal
 send_state now n p status s =
     must (on_clock s.shared.clock now) Clock
     (must (is_packet n p) Domain
@@ -92,24 +90,24 @@ empty_space s =
       lost_ack = 0;
       lost_pto = 0;
       epoch = record {
-        time_of_last_ack_eliciting_packet = Unset;
+        time_of_last_ack_eliciting_packet = None;
         largest_acked_packet = s.epoch.largest_acked_packet;
-        loss_time = Unset;
+        loss_time = None;
         loss_probes = 0;
         in_flight_count = 0;
         largest_sent_packet = s.epoch.largest_sent_packet;
       };
     }
 
-unfoldable pub discard_state : Moment → ℕ → HandshakeStatus → ℕ → State → Result State
+unfoldable pub discard_state : Moment → ℕ → HandshakeStatus → ℕ → State → Result State Refusal
 discard_state now n status bytes s =
     timed_state now status
     (with_space_state n (empty_space (space_state_at n s))
     (shared_timeout now s.shared.pto_count (s.shared.bytes_in_flight - bytes) s.shared.congestion s.shared) s)
 
-unfoldable pub discard_by : Moment → ℕ → HandshakeStatus → Sum → State → Result State
+unfoldable pub discard_by : Moment → ℕ → HandshakeStatus → Result ℕ Refusal → State → Result State Refusal
 discard_by now n status bytes s =
-    must (on_clock s.shared.clock now) Clock (must (is_space n) Domain (reach bytes λ b. discard_state now n status b s))
+    must (on_clock s.shared.clock now) Clock (must (is_space n) Domain (then bytes λ b. discard_state now n status b s))
 
 -- ---- takes and pings
 
@@ -159,7 +157,7 @@ shared_sized size g s =
 unfoldable pub space_state_fresh : SpaceState
 space_state_fresh = record { head = 0; len = 0; acked = 0; lost_ack = 0; lost_pto = 0; epoch = epoch_fresh }
 
-unfoldable pub fresh_state : Settings → Result State
+unfoldable pub fresh_state : Settings → Result State Refusal
 fresh_state s =
     must (are_settings s) Domain
-    (accepted (record { initial = space_state_fresh; handshake = space_state_fresh; application = space_state_fresh; shared = shared_fresh s }))
+    (Ok (record { initial = space_state_fresh; handshake = space_state_fresh; application = space_state_fresh; shared = shared_fresh s }))

@@ -1,12 +1,13 @@
 -- What a connection's words and values stand for: model's connection, lists and all. Definitions only.
-use Rattle.std.specs.Prelude.{ℕ, ◌+◌, ◌-◌, ◌%◌, min, cond, ◌≡◌, List, eqb, length}
-use Rattle.model.specs.Numbers.{Result, accepted, refused, capacity}
+use Rattle.std.specs.Prelude.{ℕ, ◌+◌, ◌-◌, ◌%◌, min, cond, ◌≡◌, List, eqb, length, Result, Ok, Err}
+use Rattle.model.specs.Numbers.{capacity}
 use Rattle.model.specs.Connection.{Space, Connection, space_at}
 use Rattle.model.specs.Events.{Step}
 use Rattle.model.specs.declared.Shared.{Shared}
 use Rattle.records.specs.View.{records_of, queue_of}
 use Rattle.connection.specs.declared.SpaceState.{SpaceState}
 use Rattle.connection.specs.declared.State.{State}
+use Rattle.arith.specs.declared.refusal.Refusal.{Refusal}
 
 -- ---- what stands there
 
@@ -70,9 +71,9 @@ unfolding placed_by space_state_at with_space_state
 state_by s n stored c = with_space_state n (placed_by (space_state_at n s) stored (space_at n c)) c.shared s
 
 -- the answer of an event, without the connection
-abbrev pub answer_of : {A : Type 0} → Result (Step A) → Result A
-answer_of (accepted x) = accepted x.answer
-answer_of (refused n) = refused n
+abbrev pub answer_of : {A : Type 0} → Result (Step A) Refusal → Result A Refusal
+answer_of (Ok x) = Ok x.answer
+answer_of (Err n) = Err n
 
 -- What a public operation claims. `d` is the definition's step from the connection that words m and state s stand for, `o` the answer given;
 -- `place` and `words` say where the definition's new connection is to lie. A refusal changes no state and no lent memory.
@@ -85,10 +86,10 @@ pub record Refuses (m m' : List ℕ) (s s' : State) : Type 0 where
   pub state : s' ≡ s
   pub memory : m' ≡ m
 
-abbrev pub Leaves : {A : Type 0} → Result (Step A) → List ℕ → List ℕ → State → State → (Connection → State) → (Connection → List ℕ) → Type 0
-Leaves (accepted x) m m' s s' place words = Accepts x.state m' s' place words
-Leaves (refused n) m m' s s' place words = Refuses m m' s s'
+abbrev pub Leaves : {A : Type 0} → Result (Step A) Refusal → List ℕ → List ℕ → State → State → (Connection → State) → (Connection → List ℕ) → Type 0
+Leaves (Ok x) m m' s s' place words = Accepts x.state m' s' place words
+Leaves (Err n) m m' s s' place words = Refuses m m' s s'
 
-pub record Does {A : Type 0} (d : Result (Step A)) (o : Result A) (m m' : List ℕ) (s s' : State) (place : Connection → State) (words : Connection → List ℕ) : Type 0 where
+pub record Does {A : Type 0} (d : Result (Step A) Refusal) (o : Result A Refusal) (m m' : List ℕ) (s s' : State) (place : Connection → State) (words : Connection → List ℕ) : Type 0 where
   pub answer : o ≡ answer_of d
   pub leaves : Leaves d m m' s s' place words

@@ -6,20 +6,12 @@ ghost use Rattle.connection.specs.Steps.{space_state_fresh};
 ghost use Rattle.connection.specs.Answers.{Begins};
 
 use crate::{SpaceState, State};
+use arith::refusal::Refusal;
 use arith::round::TimeThreshold;
 use arith::time::Moment;
 use estimate::rtt::rtt_fresh;
 use front::settings::are_settings;
-use model::{
-    Congestion, Cubic, Epoch, Number, PriorState, Refusal, Reordering, Settings, Shared, Time,
-};
-
-// A fresh connection, or refusal 2.
-#[derive(Clone, Copy)]
-pub enum Begun {
-    Accepted(State),
-    Refused(Refusal),
-}
+use model::{Congestion, Cubic, Epoch, PriorState, Reordering, Settings, Shared};
 
 // The packet threshold, and the threshold of slow start, at the start. 01 The stage numbers; CUBIC (001)
 const INITIAL_PACKET_THRESHOLD: u64 = 3;
@@ -27,6 +19,7 @@ const INITIAL_PACKET_THRESHOLD: u64 = 3;
 const UNBOUNDED: u64 = u64::MAX;
 
 // The controller before any loss. 01 CUBIC (001)
+#[tactic(auto, unfolding(model::specs::Cubic::congestion_fresh))]
 fn congestion_fresh(s: Settings) -> Congestion
     requires { s.max_datagram_size * s.initial_window_packets ≤ 6552700 }
     ensures { result ≡ congestion_fresh s }
@@ -35,7 +28,7 @@ fn congestion_fresh(s: Settings) -> Congestion
         congestion_window: s.max_datagram_size * s.initial_window_packets,
         ssthresh: UNBOUNDED,
         bytes_acked_sl: 0,
-        congestion_recovery_start_time: Time::Unset,
+        congestion_recovery_start_time: None,
         lost_count: 0,
         cubic: Cubic {
             k: 0.0,
@@ -49,7 +42,7 @@ fn congestion_fresh(s: Settings) -> Congestion
             ssthresh: 0,
             w_max: 0.0,
             k: 0.0,
-            epoch_start: Time::Unset,
+            epoch_start: None,
             lost_count: 0,
         },
         max_datagram_size: s.max_datagram_size,
@@ -58,17 +51,16 @@ fn congestion_fresh(s: Settings) -> Congestion
 }
 
 // What the spaces share.
+#[tactic(auto, unfolding(model::specs::Connection::shared_fresh))]
 fn shared_fresh(s: Settings) -> Shared
     requires { s.max_datagram_size * s.initial_window_packets ≤ 6552700 }
     ensures { result ≡ shared_fresh s }
 {
-    let rtt = rtt_fresh(s);
-    let congestion = congestion_fresh(s);
     Shared {
         clock: Moment(0),
-        loss_timer: Time::Unset,
+        loss_timer: None,
         pto_count: 0,
-        rtt: rtt,
+        rtt: rtt_fresh(s),
         reordering: Reordering {
             pkt_thresh: INITIAL_PACKET_THRESHOLD,
             time_thresh: TimeThreshold::NineEighths,
@@ -77,11 +69,12 @@ fn shared_fresh(s: Settings) -> Shared
         bytes_in_flight: 0,
         max_datagram_size: s.max_datagram_size,
         outstanding_non_ack_eliciting: 0,
-        congestion: congestion,
+        congestion: congestion_fresh(s),
     }
 }
 
 // A space without records and handles.
+#[tactic(auto, unfolding(crate::specs::Steps::space_state_fresh, model::specs::Connection::epoch_fresh))]
 fn space_fresh() -> SpaceState
     ensures { result ≡ space_state_fresh }
 {
@@ -92,29 +85,29 @@ fn space_fresh() -> SpaceState
         lost_ack: 0,
         lost_pto: 0,
         epoch: Epoch {
-            time_of_last_ack_eliciting_packet: Time::Unset,
-            largest_acked_packet: Number::Missing,
-            loss_time: Time::Unset,
+            time_of_last_ack_eliciting_packet: None,
+            largest_acked_packet: None,
+            loss_time: None,
             loss_probes: 0,
             in_flight_count: 0,
-            largest_sent_packet: Number::Missing,
+            largest_sent_packet: None,
         },
     }
 }
 
 // A connection with these settings, over whatever words. 01 The stage numbers; 000 new
-pub fn fresh(s: Settings) -> Begun
+#[tactic(auto, using(crate::proofs::Events::settings_fit), unfolding(crate::specs::Steps::fresh_state))]
+pub fn fresh(s: Settings) -> Result<State, Refusal>
     ensures { Begins s result }
 {
     if !are_settings(s) {
-        return Begun::Refused(Refusal::Domain);
+        return Err(Refusal::Domain);
     }
     let space = space_fresh();
-    let shared = shared_fresh(s);
-    Begun::Accepted(State {
+    Ok(State {
         initial: space,
         handshake: space,
         application: space,
-        shared: shared,
+        shared: shared_fresh(s),
     })
 }

@@ -2,7 +2,11 @@
 // No public function has a `requires`; each claims its whole answer, for every argument and every word of the memory.
 #![tactic(auto)]
 
-use model::{Epoch, Refusal, Shared};
+ghost use Rattle.std.specs.Prelude.{◌<◌, ◌≤◌};
+ghost use Rattle.model.specs.Numbers.{capacity};
+
+use arith::refusal::Refusal;
+use model::{Epoch, Shared};
 
 pub mod discard;
 pub mod fresh;
@@ -25,6 +29,14 @@ pub struct SpaceState {
     pub epoch: Epoch,
 }
 
+// A space whose records lie in its ring: any front and any count are read as such (`parts::normal`).
+#[derive(Clone, Copy)]
+pub struct Normal {
+    pub space: SpaceState,
+    ghost head_in: { space.head < capacity },
+    ghost len_in: { space.len ≤ capacity },
+}
+
 // A connection, but for its words.
 #[derive(Clone, Copy)]
 pub struct State {
@@ -34,28 +46,9 @@ pub struct State {
     pub shared: Shared,
 }
 
-// Whether an event was accepted, and the state after it; after a refusal it is the state before.
+// What an event answers, and the state after it; after a refusal it is the state before.
 #[derive(Clone, Copy)]
-pub enum Outcome {
-    Accepted,
-    Refused(Refusal),
-}
-
-#[derive(Clone, Copy)]
-pub struct Answer {
-    pub outcome: Outcome,
-    pub state: State,
-}
-
-// The handle that was taken, 0 from an empty queue, and the state after it.
-#[derive(Clone, Copy)]
-pub enum Taken {
-    Handle(u64),
-    Refused(Refusal),
-}
-
-#[derive(Clone, Copy)]
-pub struct Taking {
-    pub taken: Taken,
+pub struct Answer<T> {
+    pub outcome: Result<T, Refusal>,
     pub state: State,
 }

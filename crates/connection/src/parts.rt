@@ -3,196 +3,151 @@ ghost use Rattle.std.specs.Prelude.{◌≡◌, ◌-◌};
 ghost use Rattle.model.specs.Numbers.{on_clock};
 ghost use Rattle.connection.specs.View.{normal_of, space_state_at, with_space_state};
 ghost use Rattle.connection.specs.Steps.{probed_space, facts_state, armed, timed_state};
-ghost use Rattle.connection.specs.Answers.{refused_by, timed_says};
+ghost use Rattle.connection.specs.Answers.{refused_by, settled_by};
 
-use crate::{Answer, Outcome, SpaceState, State};
+use crate::{Answer, Normal, SpaceState, State};
+use arith::refusal::Refusal;
 use arith::time::Moment;
-use estimate::timer::{Armed, set_loss_detection_timer};
+use estimate::timer::set_loss_detection_timer;
 use front::clock::on_clock;
-use model::{Epoch, HandshakeStatus, Refusal, Shared, Time, TimerFacts};
+use model::{Epoch, HandshakeStatus, Shared, TimerFacts};
 use records::memory::{CAPACITY, held};
 
-// The state with its timer set, or refusal 7.
-#[derive(Clone, Copy)]
-pub enum Timing {
-    Accepted(State),
-    TooLarge,
-}
-
 // The same space, with its counts in their ranges.
-pub fn normal(s: SpaceState) -> SpaceState
-    ensures { result ≡ normal_of s }
+#[tactic(auto, unfolding(crate::specs::View::normal_of))]
+pub fn normal(s: SpaceState) -> Normal
+    ensures { result.space ≡ normal_of s }
 {
-    let epoch = s.epoch;
-    SpaceState {
-        head: s.head % CAPACITY,
-        len: held(s.len),
-        acked: held(s.acked),
-        lost_ack: held(s.lost_ack),
-        lost_pto: held(s.lost_pto),
-        epoch: epoch,
+    Normal {
+        space: SpaceState {
+            head: s.head % CAPACITY,
+            len: held(s.len),
+            acked: held(s.acked),
+            lost_ack: held(s.lost_ack),
+            lost_pto: held(s.lost_pto),
+            ..s
+        },
     }
 }
 
-// Space n; any number past 1 names Application.
+// Space n; any number past 1 names Application. A space goes by its number: refusal 2 is for all the other numbers.
+#[tactic(auto, unfolding(crate::specs::View::space_state_at))]
 pub fn space_at(s: State, n: u64) -> SpaceState
     ensures { result ≡ space_state_at n s }
 {
-    let initial = s.initial;
-    let handshake = s.handshake;
-    let application = s.application;
-    if n == 0 {
-        return initial;
+    match n {
+        0 => s.initial,
+        1 => s.handshake,
+        _ => s.application,
     }
-    if n == 1 {
-        return handshake;
-    }
-    application
 }
 
 // The state with another space n, and with other values beside the spaces.
+#[tactic(auto, unfolding(crate::specs::View::with_space_state))]
 pub fn with_space(s: State, n: u64, p: SpaceState, shared: Shared) -> State
     ensures { result ≡ with_space_state n p shared s }
 {
-    let initial = s.initial;
-    let handshake = s.handshake;
-    let application = s.application;
-    if n == 0 {
-        return State {
+    match n {
+        0 => State {
             initial: p,
-            handshake: handshake,
-            application: application,
-            shared: shared,
-        };
-    }
-    if n == 1 {
-        return State {
-            initial: initial,
+            shared,
+            ..s
+        },
+        1 => State {
             handshake: p,
-            application: application,
-            shared: shared,
-        };
-    }
-    State {
-        initial: initial,
-        handshake: handshake,
-        application: p,
-        shared: shared,
+            shared,
+            ..s
+        },
+        _ => State {
+            application: p,
+            shared,
+            ..s
+        },
     }
 }
 
 // The space with other probes and so many handles in its PTO queue.
+#[tactic(auto, unfolding(crate::specs::Steps::probed_space))]
 pub fn with_probes(p: SpaceState, probes: u64, lost_pto: usize) -> SpaceState
     ensures { result ≡ probed_space probes lost_pto p }
 {
-    let epoch = p.epoch;
-    let last = epoch.time_of_last_ack_eliciting_packet;
-    let acked = epoch.largest_acked_packet;
-    let loss_time = epoch.loss_time;
-    let sent = epoch.largest_sent_packet;
     SpaceState {
-        head: p.head,
-        len: p.len,
-        acked: p.acked,
-        lost_ack: p.lost_ack,
-        lost_pto: lost_pto,
+        lost_pto,
         epoch: Epoch {
-            time_of_last_ack_eliciting_packet: last,
-            largest_acked_packet: acked,
-            loss_time: loss_time,
             loss_probes: probes,
-            in_flight_count: epoch.in_flight_count,
-            largest_sent_packet: sent,
+            ..p.epoch
         },
+        ..p
     }
 }
 
 // What the timer goes by.
+#[tactic(auto, unfolding(crate::specs::Steps::facts_state))]
 pub fn facts(s: State, now: Moment, status: HandshakeStatus) -> TimerFacts
     ensures { result ≡ facts_state now status s }
 {
-    let shared = s.shared;
-    let rtt = shared.rtt;
-    let initial = s.initial;
-    let handshake = s.handshake;
-    let application = s.application;
-    let first = initial.epoch;
-    let second = handshake.epoch;
-    let third = application.epoch;
     TimerFacts {
-        now: now,
-        status: status,
-        rtt: rtt,
-        pto_count: shared.pto_count,
-        bytes_in_flight: shared.bytes_in_flight,
-        initial: first,
-        handshake: second,
-        application: third,
+        now,
+        status,
+        rtt: s.shared.rtt,
+        pto_count: s.shared.pto_count,
+        bytes_in_flight: s.shared.bytes_in_flight,
+        initial: s.initial.epoch,
+        handshake: s.handshake.epoch,
+        application: s.application.epoch,
     }
 }
 
 // The state with its timer at t.
-fn with_timer(s: State, t: Time) -> State
+#[tactic(auto, unfolding(crate::specs::Steps::armed))]
+fn with_timer(s: State, t: Option<Moment>) -> State
     ensures { result ≡ armed t s }
 {
-    let old = s.shared;
-    let initial = s.initial;
-    let handshake = s.handshake;
-    let application = s.application;
-    let clock = old.clock;
-    let rtt = old.rtt;
-    let reordering = old.reordering;
-    let congestion = old.congestion;
     State {
-        initial: initial,
-        handshake: handshake,
-        application: application,
         shared: Shared {
-            clock: clock,
             loss_timer: t,
-            pto_count: old.pto_count,
-            rtt: rtt,
-            reordering: reordering,
-            bytes_in_flight: old.bytes_in_flight,
-            max_datagram_size: old.max_datagram_size,
-            outstanding_non_ack_eliciting: old.outstanding_non_ack_eliciting,
-            congestion: congestion,
+            ..s.shared
         },
+        ..s
     }
 }
 
 // The state with its timer set anew. 01 Timer and PTO (000); 000 set_loss_detection_timer
-pub fn timed(s: State, now: Moment, status: HandshakeStatus) -> Timing
-    ensures { timed_says result ≡ timed_state now status s }
+#[tactic(auto, unfolding(crate::specs::Steps::timed_state))]
+pub fn timed(s: State, now: Moment, status: HandshakeStatus) -> Result<State, Refusal>
+    ensures { result ≡ timed_state now status s }
 {
-    let Armed::Is(t) = set_loss_detection_timer(facts(s, now, status)) else {
-        return Timing::TooLarge;
-    };
-    Timing::Accepted(with_timer(s, t))
-}
-
-// What is left of a, not below 0.
-pub fn less(a: u64, b: u64) -> u64
-    ensures { result ≡ a - b }
-{
-    if a < b { 0 } else { a - b }
+    let t = set_loss_detection_timer(facts(s, now, status))?;
+    Ok(with_timer(s, t))
 }
 
 // The answer of an event that refusal k turns down.
-pub fn refused(s: State, k: Refusal) -> Answer
+pub fn refused<T>(s: State, k: Refusal) -> Answer<T>
     ensures { result ≡ refused_by k s }
 {
     Answer {
-        outcome: Outcome::Refused(k),
+        outcome: Err(k),
         state: s,
     }
 }
 
+// The answer of an event that decides over the state alone: the state that it comes to, or the one before.
+pub fn settled(s: State, decided: Result<State, Refusal>) -> Answer<()>
+    ensures { result ≡ settled_by s decided }
+{
+    match decided {
+        Ok(t) => Answer {
+            outcome: Ok(()),
+            state: t,
+        },
+        Err(k) => refused(s, k),
+    }
+}
+
 // Whether refusal 1 spares a moment, after the clock of a state. 01 The stage numbers
+#[tactic(auto, unfolding(model::specs::Numbers::on_clock))]
 pub fn in_time(s: State, now: Moment) -> bool
     ensures { result ≡ on_clock s.shared.clock now }
 {
-    let shared = s.shared;
-    let clock = shared.clock;
-    on_clock(clock, now)
+    on_clock(s.shared.clock, now)
 }

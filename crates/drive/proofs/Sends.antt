@@ -9,15 +9,16 @@ use lib.Seq.{drop-cons}
 use Rattle.arith.specs.Time.{moment}
 use Rattle.model.specs.Connection.{Connection as Model}
 use Rattle.model.specs.Events.{Step, on_packet_sent}
-use Rattle.model.specs.Numbers.{Result, accepted, refused}
 use Rattle.model.specs.Run.{Answer, done, answering, sent, state_by, step, after, run}
 use Rattle.model.specs.Trace.{status_of}
-use Rattle.plain.specs.Coded.{packet_of}
+use Rattle.model.specs.Trace.{packet_of}
 use Rattle.plain.specs.Values.{is_sealed, values_of}
 use Rattle.serve.specs.Events.{SentServed, sent_step, sent_lay}
 use Rattle.serve.specs.Record.{stands_for, asked, left_by, connection_by}
 use Rattle.serve.specs.declared.Connection.{Connection}
 use Rattle.drive.specs.Sends.{sends, send_one, send_from, SentAll}
+use Rattle.std.specs.Prelude.{Result, Ok, Err}
+use Rattle.arith.specs.declared.refusal.Refusal.{Refusal}
 
 -- ---- one event
 
@@ -27,9 +28,9 @@ unfolding send_one
 left_one c time i size r c' e = e.left
 
 -- model's connection after it
-by_answer : {A : Type 0} (f : A → Answer) (d : Result (Step A)) (c : Model) → connection_by d c ≡ state_by c (answering f d)
-by_answer f (accepted x) c = refl
-by_answer f (refused k) c = refl
+by_answer : {A : Type 0} (f : A → Answer) (d : Result (Step A) Refusal) (c : Model) → connection_by d c ≡ state_by c (answering f d)
+by_answer f (Ok x) c = refl
+by_answer f (Err k) c = refl
 
 stands_one : (c : Connection) (time i size : ℕ) (r : ℕ) (c' : Connection) → is_sealed c.values ≡ true → SentServed c time 2 i size 7 i 7 r c' → stands_for c' ≡ after (sent (moment time) 2 (packet_of i size 7 i) (status_of 7)) (stands_for c)
 unfolding sent_step asked after step
@@ -37,10 +38,10 @@ stands_one c time i size r c' begun e =
     (rw begun at e.stands) ∙ by_answer (λ a. done) (on_packet_sent (moment time) 2 (packet_of i size 7 i) (status_of 7) (stands_for c)) (stands_for c)
 
 -- a record that was begun stays so
-kept : (c : Connection) (time i size : ℕ) (d : Result (Step ℕ)) → is_sealed c.values ≡ true → is_sealed (left_by d (sent_lay c time 2 i size 7 i) c).values ≡ true
+kept : (c : Connection) (time i size : ℕ) (d : Result (Step ℕ) Refusal) → is_sealed c.values ≡ true → is_sealed (left_by d (sent_lay c time 2 i size 7 i) c).values ≡ true
 unfolding is_sealed values_of sent_lay
-kept c time i size (accepted x) begun = refl
-kept c time i size (refused k) begun = begun
+kept c time i size (Ok x) begun = refl
+kept c time i size (Err k) begun = begun
 
 begun-one : (c : Connection) (time i size : ℕ) (r : ℕ) (c' : Connection) → is_sealed c.values ≡ true → SentServed c time 2 i size 7 i 7 r c' → is_sealed c'.values ≡ true
 begun-one c time i size r c' begun e = ap (λ (x : Connection). is_sealed x.values) e.left ∙ kept c time i size (sent_step c time 2 i size 7 i 7) begun

@@ -3,7 +3,7 @@ use Rattle.std.specs.Prelude.{true, List, [], ◌∷◌, ◌≡◌, ℕ, suc}
 use Rattle.arith.specs.Time.{moment}
 use Rattle.model.specs.Run.{Event, sent, run}
 use Rattle.model.specs.Trace.{status_of}
-use Rattle.plain.specs.Coded.{packet_of}
+use Rattle.model.specs.Trace.{packet_of}
 use Rattle.plain.specs.Values.{is_sealed}
 use Rattle.serve.specs.Events.{sent_step, sent_lay}
 use Rattle.serve.specs.Record.{stands_for, left_by}

@@ -8,27 +8,26 @@ use lib.Dec.{leb}
 use lib.Pow.{pow_mono}
 use Rattle.arith.specs.Time.{span, span_sum_of, longer_of, shorter_of}
 use Rattle.arith.specs.declared.time.Span.{Span}
-use Rattle.arith.specs.declared.time.Sum.{Sum}
-use Rattle.arith.specs.declared.time.Sum.TheVariants.{Fine, Over}
 use Rattle.arith.proofs.Laws.{moved, not_yet}
-use Rattle.model.specs.Numbers.{Result, accepted, reach, reach_span}
+use Rattle.arith.specs.Refusals.{then}
 use Rattle.model.specs.Rtt.{rtt_later, adjusted}
 use Rattle.model.specs.Timer.{sooner}
 use Rattle.model.specs.declared.Rtt.{Rtt}
-use Rattle.model.specs.declared.Time.{Time}
-use Rattle.model.specs.declared.Time.TheVariants.{Unset, At}
-use Rattle.estimate.specs.Sums.{also, rttvar_sum, smoothed_sum}
+use Rattle.estimate.specs.Sums.{rttvar_sum, smoothed_sum}
+use Rattle.std.specs.Prelude.{Result, Ok, Err, Option, Some, None}
+use Rattle.arith.specs.declared.time.Moment.{Moment}
+use Rattle.arith.specs.declared.refusal.Refusal.{Refusal}
 
 -- ---- a later sample, by its two sums
-pub reach-also : {A : Type 0} (s : Sum) (f : ℕ → Sum) (k : ℕ → Result A) → reach s (λ n. reach (f n) k) ≡ reach (also s f) k
-reach-also (Fine n) f k = refl
-reach-also Over f k = refl
+pub then-then : {A : Type 0} (s : Result ℕ Refusal) (f : ℕ → Result ℕ Refusal) (k : ℕ → Result A Refusal) → then s (λ n. then (f n) k) ≡ then (then s f) k
+then-then (Ok n) f k = refl
+then-then (Err why) f k = refl
 
-pub later-by : (r : Rtt) (l delay : Span) → rtt_later r l delay ≡
-    reach_span (span_sum_of (shorter_of r.min_rtt l) delay) λ edge.
-    reach (rttvar_sum r (adjusted l delay edge)) λ v.
-    reach (smoothed_sum r (adjusted l delay edge)) λ s.
-    accepted
+pub later_by : (r : Rtt) (l delay : Span) → rtt_later r l delay ≡
+    then (span_sum_of (shorter_of r.min_rtt l) delay) λ edge.
+    then (rttvar_sum r (adjusted l delay edge)) λ v.
+    then (smoothed_sum r (adjusted l delay edge)) λ s.
+    Ok
     (record {
       latest_rtt = l;
       min_rtt = shorter_of r.min_rtt l;
@@ -39,7 +38,7 @@ pub later-by : (r : Rtt) (l delay : Span) → rtt_later r l delay ≡
       max_ack_delay = r.max_ack_delay;
     })
 unfolding rtt_later rttvar_sum smoothed_sum
-later-by r l delay = simp reach-also
+later_by r l delay = simp then-then
 
 -- ---- lost by number
 pub overtakes : (number threshold largest : ℕ) → number ≤ largest → leb threshold (largest - number) ≡ leb (number + threshold) largest
@@ -49,10 +48,10 @@ pub not-overtakes : (number threshold largest : ℕ) → largest < number → fa
 not-overtakes number threshold largest h = rw (add_comm number threshold, not_yet threshold number largest h)
 
 -- ---- which time wins
-pub none-sooner : (a : Time) → sooner a Unset ≡ false
+pub none-sooner : (a : Option Moment) → sooner a None ≡ false
 unfolding sooner
-none-sooner Unset = refl
-none-sooner (At m) = refl
+none-sooner None = refl
+none-sooner (Some m) = refl
 
 -- ---- the backoff
 pub backed-small : (n : ℕ) → n < 32 → 1 * 2 ^ n % 2 ^ 64 ≡ min (2 ^ n) 4294967295

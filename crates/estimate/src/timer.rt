@@ -3,32 +3,11 @@ ghost use Rattle.std.specs.Prelude.{◌≡◌};
 ghost use Rattle.model.specs.Timer.{sooner, better, loss_time_and_space, pto_of, backoff, pto_backed, pto_application, pto_from};
 ghost use Rattle.model.specs.Timer.{try_epoch, try_application, search, idle_space, pto_time_and_space, pto_timer, timer_of, probe_space};
 ghost use Rattle.model.specs.Timer.{elicits, available};
-ghost use Rattle.estimate.specs.Says.{span_says, chosen_says, armed_says, probed_says};
 
 use crate::loss::GRANULARITY;
-use arith::time::{MomentSum, Span, SpanSum, add_spans, later, longer, scale};
-use model::{Epoch, HandshakeStatus, Rtt, Time, TimeAndSpace, TimerFacts};
-
-// A time and its space, or refusal 7.
-#[derive(Clone, Copy)]
-pub enum Chosen {
-    Is(TimeAndSpace),
-    TooLarge,
-}
-
-// What the timer is set to, or refusal 7.
-#[derive(Clone, Copy)]
-pub enum Armed {
-    Is(Time),
-    TooLarge,
-}
-
-// The space that probes go to, or refusal 7.
-#[derive(Clone, Copy)]
-pub enum Probed {
-    Is(u64),
-    TooLarge,
-}
+use arith::refusal::Refusal;
+use arith::time::{Moment, Span, add_spans, later, longer, scale};
+use model::{Epoch, HandshakeStatus, Rtt, TimeAndSpace, TimerFacts};
 
 // 2^32-1, the largest backoff, and the PTO count from which on it stands.
 const MAX_BACKOFF: u64 = 4294967295;
@@ -42,61 +21,52 @@ const MAX_OUTSTANDING_NON_ACK_ELICITING: u64 = 24;
 const UNBOUNDED: u64 = u64::MAX;
 
 // Whether a goes before b: an unset time goes before any set one. 01 Timer and PTO (000)
-pub fn sooner(a: Time, b: Time) -> bool
+#[tactic(auto, unfolding(model::specs::Timer::sooner))]
+pub fn sooner(a: Option<Moment>, b: Option<Moment>) -> bool
     ensures { result ≡ sooner a b }
 {
-    match b {
-        Time::At(n) => match a {
-            Time::At(m) => m.0 < n.0,
-            Time::Unset => true,
-        },
-        Time::Unset => false,
-    }
+    a < b
 }
 
 // The better of what stands and a later space's time. 01 Timer and PTO (000)
-pub fn better(best: TimeAndSpace, t: Time, n: u64) -> TimeAndSpace
+#[tactic(auto, unfolding(model::specs::Timer::better))]
+pub fn better(best: TimeAndSpace, t: Option<Moment>, n: u64) -> TimeAndSpace
     ensures { result ≡ better best t n }
 {
-    let standing = best.time;
-    match standing {
-        Time::At(_) => if sooner(t, standing) {
+    match best.time {
+        Some(_) => if sooner(t, best.time) {
             TimeAndSpace { time: t, space: n }
         } else {
             best
         },
-        Time::Unset => TimeAndSpace { time: t, space: n },
+        None => TimeAndSpace { time: t, space: n },
     }
 }
 
 // The loss time that goes before PTO, and its space. 01 Timer and PTO (000); 000 loss_time_and_space
+#[tactic(auto, unfolding(model::specs::Timer::loss_time_and_space))]
 pub fn loss_time_and_space(initial: Epoch, handshake: Epoch, application: Epoch) -> TimeAndSpace
     ensures { result ≡ loss_time_and_space initial handshake application }
 {
-    let first = initial.loss_time;
-    let second = handshake.loss_time;
-    let third = application.loss_time;
     let standing = TimeAndSpace {
-        time: first,
+        time: initial.loss_time,
         space: 0,
     };
-    let best = better(standing, second, 1);
-    better(best, third, 2)
+    let best = better(standing, handshake.loss_time, 1);
+    better(best, application.loss_time, 2)
 }
 
 // Smoothed + max(4 rttvar, granularity). 01 Timer and PTO (000); 000 pto; RFC 9002 section 6.2.1
-pub fn pto(r: Rtt) -> SpanSum
-    ensures { span_says result ≡ pto_of r }
+#[tactic(auto, unfolding(model::specs::Timer::pto_of))]
+pub fn pto(r: Rtt) -> Result<Span, Refusal>
+    ensures { result ≡ pto_of r }
 {
-    let smoothed = r.smoothed_rtt;
-    let rttvar = r.rttvar;
-    let SpanSum::SpanOf(v) = scale(4, rttvar) else {
-        return SpanSum::TooLong;
-    };
-    add_spans(smoothed, longer(v, Span(GRANULARITY)))
+    let v = scale(4, r.rttvar)?;
+    add_spans(r.smoothed_rtt, longer(v, Span(GRANULARITY)))
 }
 
 // The lesser of 2^count and 2^32-1. 01 Timer and PTO (000); RFC 9002 section 6.2.1
+#[tactic(auto, unfolding(model::specs::Timer::backoff))]
 pub fn backoff(count: u64) -> u64
     ensures { result ≡ backoff count }
 {
@@ -107,89 +77,74 @@ pub fn backoff(count: u64) -> u64
 }
 
 // PTO, times the backoff. 000 pto_time_and_space
-fn pto_backed(f: TimerFacts) -> SpanSum
-    ensures { span_says result ≡ pto_backed f }
+#[tactic(auto, unfolding(model::specs::Timer::pto_backed))]
+fn pto_backed(f: TimerFacts) -> Result<Span, Refusal>
+    ensures { result ≡ pto_backed f }
 {
-    let rtt = f.rtt;
-    let SpanSum::SpanOf(p) = pto(rtt) else {
-        return SpanSum::TooLong;
-    };
+    let p = pto(f.rtt)?;
     scale(backoff(f.pto_count), p)
 }
 
 // Max ack delay, multiplied alike, added for Application. 000 pto_time_and_space; RFC 9002 section 6.2.1
-fn pto_application(f: TimerFacts, duration: Span) -> SpanSum
-    ensures { span_says result ≡ pto_application f duration }
+#[tactic(auto, unfolding(model::specs::Timer::pto_application))]
+fn pto_application(f: TimerFacts, duration: Span) -> Result<Span, Refusal>
+    ensures { result ≡ pto_application f duration }
 {
-    let rtt = f.rtt;
-    let max_ack_delay = rtt.max_ack_delay;
-    let SpanSum::SpanOf(extra) = scale(backoff(f.pto_count), max_ack_delay) else {
-        return SpanSum::TooLong;
-    };
+    let extra = scale(backoff(f.pto_count), f.rtt.max_ack_delay)?;
     add_spans(duration, extra)
 }
 
 // A space's time, from its last eliciting send in flight. 000 pto_time_and_space
-fn pto_from(last: Time, duration: Span) -> Armed
-    ensures { armed_says result ≡ pto_from last duration }
+#[tactic(auto, unfolding(model::specs::Timer::pto_from))]
+fn pto_from(last: Option<Moment>, duration: Span) -> Result<Option<Moment>, Refusal>
+    ensures { result ≡ pto_from last duration }
 {
-    let Time::At(sent) = last else {
-        return Armed::Is(Time::Unset);
+    let Some(sent) = last else {
+        return Ok(None);
     };
-    let MomentSum::MomentOf(m) = later(sent, duration) else {
-        return Armed::TooLarge;
-    };
-    Armed::Is(Time::At(m))
+    let m = later(sent, duration)?;
+    Ok(Some(m))
 }
 
 // What stands after a space was tried, if it has packets in flight. 000 pto_time_and_space
-fn try_epoch(e: Epoch, n: u64, duration: Span, best: TimeAndSpace) -> Chosen
-    ensures { chosen_says result ≡ try_epoch e n duration best }
+#[tactic(auto, unfolding(model::specs::Timer::try_epoch))]
+fn try_epoch(e: Epoch, n: u64, duration: Span, best: TimeAndSpace) -> Result<TimeAndSpace, Refusal>
+    ensures { result ≡ try_epoch e n duration best }
 {
-    let last = e.time_of_last_ack_eliciting_packet;
     if e.in_flight_count == 0 {
-        return Chosen::Is(best);
+        return Ok(best);
     }
-    let Armed::Is(t) = pto_from(last, duration) else {
-        return Chosen::TooLarge;
-    };
-    Chosen::Is(better(best, t, n))
+    let t = pto_from(e.time_of_last_ack_eliciting_packet, duration)?;
+    Ok(better(best, t, n))
 }
 
 // What stands after Application, which is tried only once the handshake is completed. 000 pto_time_and_space
-fn try_application(f: TimerFacts, duration: Span, best: TimeAndSpace) -> Chosen
-    ensures { chosen_says result ≡ try_application f duration best }
+#[tactic(auto, unfolding(model::specs::Timer::try_application))]
+fn try_application(
+    f: TimerFacts,
+    duration: Span,
+    best: TimeAndSpace,
+) -> Result<TimeAndSpace, Refusal>
+    ensures { result ≡ try_application f duration best }
 {
-    let application = f.application;
-    let status = f.status;
-    if application.in_flight_count == 0 {
-        return Chosen::Is(best);
+    if f.application.in_flight_count == 0 || !f.status.completed {
+        return Ok(best);
     }
-    if !status.completed {
-        return Chosen::Is(best);
-    }
-    let SpanSum::SpanOf(longest) = pto_application(f, duration) else {
-        return Chosen::TooLarge;
-    };
-    try_epoch(application, 2, longest, best)
+    let longest = pto_application(f, duration)?;
+    try_epoch(f.application, 2, longest, best)
 }
 
 // What stands after the spaces in order 0, 1, 2. 000 pto_time_and_space
-fn search(f: TimerFacts, duration: Span) -> Chosen
-    ensures { chosen_says result ≡ search f duration }
+#[tactic(auto, unfolding(model::specs::Timer::search))]
+fn search(f: TimerFacts, duration: Span) -> Result<TimeAndSpace, Refusal>
+    ensures { result ≡ search f duration }
 {
-    let initial = f.initial;
-    let handshake = f.handshake;
     let none = TimeAndSpace {
-        time: Time::Unset,
+        time: None,
         space: 0,
     };
-    let Chosen::Is(a) = try_epoch(initial, 0, duration, none) else {
-        return Chosen::TooLarge;
-    };
-    let Chosen::Is(b) = try_epoch(handshake, 1, duration, a) else {
-        return Chosen::TooLarge;
-    };
+    let a = try_epoch(f.initial, 0, duration, none)?;
+    let b = try_epoch(f.handshake, 1, duration, a)?;
     try_application(f, duration, b)
 }
 
@@ -201,97 +156,72 @@ fn idle_space(s: HandshakeStatus) -> u64
 }
 
 // When probes are due, and in which space. 01 Timer and PTO (000); 000 pto_time_and_space; RFC 9002 section 6.2.1
-pub fn pto_time_and_space(f: TimerFacts) -> Chosen
-    ensures { chosen_says result ≡ pto_time_and_space f }
+#[tactic(auto, unfolding(model::specs::Timer::pto_time_and_space))]
+pub fn pto_time_and_space(f: TimerFacts) -> Result<TimeAndSpace, Refusal>
+    ensures { result ≡ pto_time_and_space f }
 {
-    let now = f.now;
-    let status = f.status;
-    let SpanSum::SpanOf(duration) = pto_backed(f) else {
-        return Chosen::TooLarge;
-    };
+    let duration = pto_backed(f)?;
     if f.bytes_in_flight != 0 {
         return search(f, duration);
     }
-    let MomentSum::MomentOf(m) = later(now, duration) else {
-        return Chosen::TooLarge;
-    };
-    Chosen::Is(TimeAndSpace {
-        time: Time::At(m),
-        space: idle_space(status),
+    let m = later(f.now, duration)?;
+    Ok(TimeAndSpace {
+        time: Some(m),
+        space: idle_space(f.status),
     })
 }
 
 // Nothing in flight and peer verified: no timer; else PTO. 000 set_loss_detection_timer
-fn pto_timer(f: TimerFacts) -> Armed
-    ensures { armed_says result ≡ pto_timer f }
+#[tactic(auto, unfolding(model::specs::Timer::pto_timer))]
+fn pto_timer(f: TimerFacts) -> Result<Option<Moment>, Refusal>
+    ensures { result ≡ pto_timer f }
 {
-    let status = f.status;
-    if f.bytes_in_flight == 0 {
-        if status.peer_verified_address {
-            return Armed::Is(Time::Unset);
-        }
+    if f.bytes_in_flight == 0 && f.status.peer_verified_address {
+        return Ok(None);
     }
-    let Chosen::Is(c) = pto_time_and_space(f) else {
-        return Armed::TooLarge;
-    };
-    let t = c.time;
-    Armed::Is(t)
+    let c = pto_time_and_space(f)?;
+    Ok(c.time)
 }
 
 // What the timer is set to: a loss time goes before PTO. 01 Timer and PTO (000); 000 set_loss_detection_timer; RFC 9002 section A.8
-pub fn set_loss_detection_timer(f: TimerFacts) -> Armed
-    ensures { armed_says result ≡ timer_of f }
+#[tactic(auto, unfolding(model::specs::Timer::timer_of))]
+pub fn set_loss_detection_timer(f: TimerFacts) -> Result<Option<Moment>, Refusal>
+    ensures { result ≡ timer_of f }
 {
-    let initial = f.initial;
-    let handshake = f.handshake;
-    let application = f.application;
-    let earliest = loss_time_and_space(initial, handshake, application);
-    let t = earliest.time;
-    match t {
-        Time::At(_) => Armed::Is(t),
-        Time::Unset => pto_timer(f),
+    let earliest = loss_time_and_space(f.initial, f.handshake, f.application);
+    match earliest.time {
+        Some(_) => Ok(earliest.time),
+        None => pto_timer(f),
     }
 }
 
 // The space that a timeout without a loss time grants probes. 01 Timer and PTO (000); 000 on_loss_detection_timeout
-pub fn probe_space(f: TimerFacts) -> Probed
-    ensures { probed_says result ≡ probe_space f }
+#[tactic(auto, unfolding(model::specs::Timer::probe_space))]
+pub fn probe_space(f: TimerFacts) -> Result<u64, Refusal>
+    ensures { result ≡ probe_space f }
 {
-    let status = f.status;
     if f.bytes_in_flight == 0 {
-        return Probed::Is(idle_space(status));
+        return Ok(idle_space(f.status));
     }
-    let Chosen::Is(c) = pto_time_and_space(f) else {
-        return Probed::TooLarge;
-    };
-    Probed::Is(c.space)
+    let c = pto_time_and_space(f)?;
+    Ok(c.space)
 }
 
 // Whether an ack is to be elicited. 01 Timer and PTO (000); 000 should_elicit_ack
+#[tactic(auto, unfolding(model::specs::Timer::elicits))]
 pub fn should_elicit_ack(probes: u64, run: u64) -> bool
     ensures { result ≡ elicits probes run }
 {
-    if probes > 0 {
-        return true;
-    }
-    run >= MAX_OUTSTANDING_NON_ACK_ELICITING
+    probes > 0 || run >= MAX_OUTSTANDING_NON_ACK_ELICITING
 }
 
 // Bytes that may be sent; no bound while any space has probes. 01 Timer and PTO (000); 000 cwnd_available; DIFFERENCES
+#[tactic(auto, unfolding(model::specs::Timer::available))]
 pub fn cwnd_available(p0: u64, p1: u64, p2: u64, window: u64, in_flight: u64) -> u64
     ensures { result ≡ available p0 p1 p2 window in_flight }
 {
-    if p0 > 0 {
+    if p0 > 0 || p1 > 0 || p2 > 0 {
         return UNBOUNDED;
     }
-    if p1 > 0 {
-        return UNBOUNDED;
-    }
-    if p2 > 0 {
-        return UNBOUNDED;
-    }
-    if window < in_flight {
-        return 0;
-    }
-    window - in_flight
+    window.saturating_sub(in_flight)
 }

@@ -4,12 +4,11 @@ use mathlib.Core.Bool.{Bool, true, false}
 use mathlib.Core.List.{List, [], ◌∷◌}
 use Prim.Native.Nat.{ℕ, ◌+◌, ◌*◌, ◌≤◌, ◌<◌}
 use native.Mathlib.Omega.{arith}
-use lib.ListN.{length, replicate, length-append}
+use lib.ListN.{length, length-append}
 use lib.Ieee.{Float, binary64, to_bits}
 use Rattle.arith.specs.declared.round.TimeThreshold.{TimeThreshold}
 use Rattle.arith.specs.declared.round.TimeThreshold.TheVariants.{NineEighths, FiveFourths}
 use Rattle.model.specs.Timer.{elicits}
-use Rattle.model.specs.Numbers.{Result, accepted, refused}
 use Rattle.model.specs.Connection.{Space, Connection}
 use Rattle.model.specs.Events.{Step}
 use Rattle.model.specs.Run.{Answer, done, of_ack, of_timeout, handle, refusal_of}
@@ -17,29 +16,26 @@ use Rattle.model.specs.Trace.{shows, text, line_of, printed}
 use Rattle.model.specs.declared.Congestion.{Congestion}
 use Rattle.model.specs.declared.Cubic.{Cubic}
 use Rattle.model.specs.declared.Epoch.{Epoch}
-use Rattle.model.specs.declared.Number.{Number}
-use Rattle.model.specs.declared.Number.TheVariants.{Missing, Is}
 use Rattle.model.specs.declared.Reordering.{Reordering}
 use Rattle.model.specs.declared.Rtt.{Rtt}
 use Rattle.model.specs.declared.Shared.{Shared}
 use Rattle.connection.specs.View.{answer_of}
-use Rattle.trace.specs.Lines.{padded}
 use Rattle.trace.specs.Put.{Put}
 use Rattle.trace.proofs.Digits.{decimal-length}
-use Rattle.trace.proofs.Lines.{timer-length, shown-length, put-padded}
-use Rattle.field.specs.Words.{apart, in_space, number_text, set_text, bit_text, threshold_text, float_text}
+use Rattle.std.specs.Bool.{then_some}
+use Rattle.trace.proofs.Puts.{put_all}
+use Rattle.trace.proofs.Lines.{timer-length, shown-length}
+use Rattle.field.specs.Words.{apart, in_space, number_text, bit_text, threshold_text, float_text}
 use Rattle.field.specs.Inspect.{ack_words, timeout_words, told_words, rtt_words, cubic_words, congestion_words, reordering_words, count_words, shared_words, time_words, frame_words, last_words, space_words, spaces_words, available_in, fields_text, inspected}
 use Rattle.field.proofs.Floats.{hex-length}
+use Rattle.std.specs.Prelude.{Result, Ok, Err, Option, Some, None}
+use Rattle.arith.specs.declared.refusal.Refusal.{Refusal}
 
 -- ---- values
 
-set-length : (t : Bool) (n : ℕ) → length (set_text t n) ≤ 20
-set-length true n = decimal-length n
-set-length false n = omega arith
-
-number-length : (n : Number) → length (number_text n) ≤ 20
-number-length Missing = omega arith
-number-length (Is n) = decimal-length n
+number-length : (n : Option ℕ) → length (number_text n) ≤ 20
+number-length None = omega arith
+number-length (Some n) = decimal-length n
 
 bit_length : (b : Bool) → length (bit_text b) ≤ 1
 bit_length true = omega arith
@@ -61,8 +57,8 @@ module _ (tag : List ℕ) where
       let a = decimal-length r.latest_rtt.0 in
       let b = decimal-length r.smoothed_rtt.0 in
       let c = decimal-length r.rttvar.0 in
-      let d = set-length r.has_first_rtt_sample r.min_rtt.0 in
-      let e = set-length r.has_first_rtt_sample r.max_rtt.0 in
+      let d = number-length (then_some r.has_first_rtt_sample r.min_rtt.0) in
+      let e = number-length (then_some r.has_first_rtt_sample r.max_rtt.0) in
       simp length-append (omega arith)
 
   cubic-length : (c : Cubic) → length (cubic_words tag c) ≤ 5 * length tag + 113
@@ -143,21 +139,21 @@ module _ (tag : List ℕ) where
       let c = last-length s.epoch run in
       simp length-append (omega arith)
 
-  told-length : (r : Result Answer) → length (told_words tag r) ≤ 4 * length tag + 125
+  told-length : (r : Result Answer Refusal) → length (told_words tag r) ≤ 4 * length tag + 125
   unfolding told_words ack_words timeout_words
-  told-length (accepted done) = omega arith
-  told-length (accepted (of_ack o)) =
+  told-length (Ok done) = omega arith
+  told-length (Ok (of_ack o)) =
       let a = decimal-length o.lost_packets in
       let b = decimal-length o.lost_bytes in
       let c = decimal-length o.acked_bytes in
       let d = decimal-length o.spurious_losses in
       simp length-append (omega arith)
-  told-length (accepted (of_timeout o)) =
+  told-length (Ok (of_timeout o)) =
       let a = decimal-length o.lost_packets in
       let b = decimal-length o.lost_bytes in
       simp length-append (omega arith)
-  told-length (accepted (handle n)) = let a = decimal-length n in simp length-append (omega arith)
-  told-length (refused k) = omega arith
+  told-length (Ok (handle n)) = let a = decimal-length n in simp length-append (omega arith)
+  told-length (Err k) = omega arith
 
 -- ---- the line
 
@@ -177,7 +173,7 @@ spaces-length c =
     let d = space-length (in_space 2) c.application run in
     simp length-append (omega arith)
 
-pub inspected-length : (kind : ℕ) (r : Result Answer) (c : Connection) → kind < 256 → length (inspected kind r c) ≤ 2048
+pub inspected-length : (kind : ℕ) (r : Result Answer Refusal) (c : Connection) → kind < 256 → length (inspected kind r c) ≤ 2048
 unfolding inspected
 inspected-length kind r c lt =
     let a = fields-length kind (refusal_of r) c.shared lt in
@@ -187,12 +183,11 @@ inspected-length kind r c lt =
     simp length-append (omega arith)
 
 -- replay's line of an event, by the step that the event took
-pub fields-line : (kind : ℕ) (r : Result (Step Answer)) (c : Connection) → fields_text kind (refusal_of (answer_of r)) c.shared ≡ text (line_of kind r c)
+pub fields-line : (kind : ℕ) (r : Result (Step Answer) Refusal) (c : Connection) → fields_text kind (refusal_of (answer_of r)) c.shared ≡ text (line_of kind r c)
 unfolding fields_text line_of
-fields-line kind (accepted s) c = refl
-fields-line kind (refused k) c = refl
+fields-line kind (Ok s) c = refl
+fields-line kind (Err k) c = refl
 
--- a buffer of zeros holds the whole line, and zeros behind it
-pub inspected-page : {z out : List ℕ} {next : ℕ} (kind : ℕ) (r : Result Answer) (c : Connection) → kind < 256 → z ≡ replicate 2048 0 →
-    Put z 0 (inspected kind r c) out next → (out ≡ padded 2048 (inspected kind r c)) × (next ≡ length (inspected kind r c))
-inspected-page kind r c lt e p = put-padded 2048 (inspected kind r c) e p (inspected-length kind r c lt)
+-- an empty text holds the whole line
+pub inspected-page : {out : List ℕ} (kind : ℕ) (r : Result Answer Refusal) (c : Connection) → kind < 256 → Put 2048 [] (inspected kind r c) out → out ≡ inspected kind r c
+inspected-page kind r c lt p = let h = inspected-length kind r c lt in put_all p (omega arith)

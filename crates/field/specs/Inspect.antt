@@ -1,6 +1,6 @@
 -- The line that program inspect prints of an event: replay's five fields, what was answered, and what the connection keeps then. Definitions only.
-use Rattle.std.specs.Prelude.{ℕ, List, [], ◌∷◌, length}
-use Rattle.model.specs.Numbers.{Result, accepted, refused}
+use Rattle.std.specs.Prelude.{ℕ, List, [], ◌∷◌, length, Result, Ok, Err}
+use Rattle.std.specs.Bool.{then_some}
 use Rattle.model.specs.Timer.{elicits, available}
 use Rattle.model.specs.Connection.{Space, Connection}
 use Rattle.model.specs.Run.{Answer, done, of_ack, of_timeout, handle, refusal_of}
@@ -13,7 +13,8 @@ use Rattle.model.specs.declared.OnLossDetectionTimeoutOutcome.{OnLossDetectionTi
 use Rattle.model.specs.declared.Reordering.{Reordering}
 use Rattle.model.specs.declared.Rtt.{Rtt}
 use Rattle.model.specs.declared.Shared.{Shared}
-use Rattle.field.specs.Words.{word, sentence, apart, in_space, number_text, set_text, bit_text, float_text, threshold_text}
+use Rattle.field.specs.Words.{word, sentence, apart, in_space, number_text, bit_text, float_text, threshold_text}
+use Rattle.arith.specs.declared.refusal.Refusal.{Refusal}
 
 -- ---- what was answered: of an ack, of a timeout, of a take
 
@@ -30,12 +31,12 @@ unfoldable pub timeout_words : List ℕ → OnLossDetectionTimeoutOutcome → Li
 timeout_words tag o = sentence (word tag "lost_packets" (decimal o.lost_packets) ∷ word tag "lost_bytes" (decimal o.lost_bytes) ∷ [])
 
 -- a refusal has only its number
-unfoldable pub told_words : List ℕ → Result Answer → List ℕ
-told_words tag (accepted done) = []
-told_words tag (accepted (of_ack o)) = ack_words tag o
-told_words tag (accepted (of_timeout o)) = timeout_words tag o
-told_words tag (accepted (handle n)) = word tag "handle" (decimal n)
-told_words tag (refused n) = []
+unfoldable pub told_words : List ℕ → Result Answer Refusal → List ℕ
+told_words tag (Ok done) = []
+told_words tag (Ok (of_ack o)) = ack_words tag o
+told_words tag (Ok (of_timeout o)) = timeout_words tag o
+told_words tag (Ok (handle n)) = word tag "handle" (decimal n)
+told_words tag (Err n) = []
 
 -- ---- what the spaces share
 
@@ -46,8 +47,8 @@ rtt_words tag r =
     (word tag "latest" (decimal r.latest_rtt.0)
     ∷ word tag "smoothed" (decimal r.smoothed_rtt.0)
     ∷ word tag "rttvar" (decimal r.rttvar.0)
-    ∷ word tag "min" (set_text r.has_first_rtt_sample r.min_rtt.0)
-    ∷ word tag "max" (set_text r.has_first_rtt_sample r.max_rtt.0)
+    ∷ word tag "min" (number_text (then_some r.has_first_rtt_sample r.min_rtt.0))
+    ∷ word tag "max" (number_text (then_some r.has_first_rtt_sample r.max_rtt.0))
     ∷ [])
 
 unfoldable pub cubic_words : List ℕ → Cubic → List ℕ
@@ -149,7 +150,7 @@ unfoldable pub fields_text : ℕ → ℕ → Shared → List ℕ
 fields_text kind refusal s = text (shows kind refusal s.congestion.congestion_window s.bytes_in_flight s.loss_timer)
 
 -- the kind, what was answered, and the connection after the event
-unfoldable pub inspected : ℕ → Result Answer → Connection → List ℕ
+unfoldable pub inspected : ℕ → Result Answer Refusal → Connection → List ℕ
 inspected kind r c =
     sentence
     (fields_text kind (refusal_of r) c.shared

@@ -1,11 +1,11 @@
 -- The lines of inspect for the events of 01's whole-output rehearsal, computed over the definitions.
-use Rattle.std.specs.Prelude.{ℕ, Bool, ◌&&◌, List, [], ◌∷◌, ◌++◌, T}
+use Rattle.std.specs.Prelude.{ℕ, Bool, ◌&&◌, List, [], ◌∷◌, ◌++◌, T, Result, Ok, Err}
 use Rattle.std.specs.Float.{binary64}
 use Rattle.std.specs.Float.Ieee.{to_bits, of_bits, add, sub, mul, div, of_int, to_unsigned, lt, le, eq}
 use Rattle.arith.specs.Whole.{within, sum_of, times_of}
 use Rattle.arith.specs.Time.{span_sum_of, scaled_of, later_of}
 use Rattle.arith.specs.Round.{nearest, product_of, seconds_of}
-use Rattle.model.specs.Numbers.{Result, accepted, refused, on_clock, is_size, are_settings}
+use Rattle.model.specs.Numbers.{on_clock, is_size, are_settings}
 use Rattle.model.specs.Rtt.{rtt_fresh, rtt_update}
 use Rattle.model.specs.Sent.{sent_now, covered, drained}
 use Rattle.model.specs.Loss.{loss_delay, is_lost, detect}
@@ -23,11 +23,12 @@ use Rattle.model.specs.declared.Cubic.{Cubic}
 use Rattle.connection.specs.View.{answer_of}
 use Rattle.field.specs.Words.{codes, apart, hex}
 use Rattle.field.specs.Inspect.{ack_words, timeout_words, told_words, rtt_words, cubic_words, congestion_words, reordering_words, count_words, shared_words, time_words, frame_words, last_words, space_words, spaces_words, available_in, fields_text, inspected}
+use Rattle.arith.specs.declared.refusal.Refusal.{Refusal}
 
 -- the line of an event of a kind, after these events on a fresh connection
-unfoldable pub line_after : Result Connection → List Event → ℕ → Event → List ℕ
-line_after (accepted c) l kind e = inspected kind (answer_of (step e (run l c))) (state_by (run l c) (step e (run l c)))
-line_after (refused n) l kind e = []
+unfoldable pub line_after : Result Connection Refusal → List Event → ℕ → Event → List ℕ
+line_after (Ok c) l kind e = inspected kind (answer_of (step e (run l c))) (state_by (run l c) (step e (run l c)))
+line_after (Err n) l kind e = []
 
 unfoldable pub lines : Bool
 unfolding line_after inspected fields_text told_words ack_words timeout_words shared_words rtt_words congestion_words cubic_words reordering_words count_words spaces_words space_words time_words frame_words last_words available_in hex text digits elicits available settings packet sending acking rtt_fresh pto_of within sum_of times_of span_sum_of scaled_of later_of nearest product_of loss_delay is_lost sent_now control moved congestion_fresh packet_acked loss_time_and_space to_bits of_bits add sub mul div of_int to_unsigned lt le eq seconds_of fresh space_fresh epoch_fresh shared_fresh run after step on_packet_sent sent_in_flight on_ack_received acknowledge acked_by acked_some sampled any_eliciting detect_lost_packets timed facts_of timer_of space_at with_space on_clock is_packet is_newer is_size are_ranges are_settings largest_for last_end covered meet_all reordered drained detect ack_each rtt_update count_lost

@@ -1,5 +1,5 @@
 -- Words `name=value` as bytes. Definitions only.
-use Rattle.std.specs.Prelude.{ℕ, zero, suc, ◌+◌, ◌/◌, ◌%◌, Bool, true, false, cond, List, [], ◌∷◌, ◌++◌, ltb, Float}
+use Rattle.std.specs.Prelude.{ℕ, zero, suc, ◌+◌, ◌/◌, ◌%◌, Bool, true, false, cond, List, [], ◌∷◌, ◌++◌, ltb, Float, Option, Some, None}
 use Prim.Native.Char.{code}
 use Prim.Native.String.{String, [] as []ˢ, ◌∷◌ as ◌∷ˢ◌}
 use Rattle.std.specs.Float.{binary64}
@@ -7,8 +7,6 @@ use Rattle.std.specs.Float.Ieee.{to_bits}
 use Rattle.arith.specs.declared.round.TimeThreshold.{TimeThreshold}
 use Rattle.arith.specs.declared.round.TimeThreshold.TheVariants.{NineEighths, FiveFourths}
 use Rattle.model.specs.Trace.{decimal}
-use Rattle.model.specs.declared.Number.{Number}
-use Rattle.model.specs.declared.Number.TheVariants.{Missing, Is}
 
 -- a name's characters
 abbrev pub codes : String → List ℕ
@@ -37,13 +35,9 @@ in_space n = 32 ∷ (48 + n) ∷ 46 ∷ []
 -- ---- values
 
 -- unset is `-`
-abbrev pub number_text : Number → List ℕ
-number_text Missing = 45 ∷ []
-number_text (Is n) = decimal n
-
-abbrev pub set_text : Bool → ℕ → List ℕ
-set_text true n = decimal n
-set_text false n = 45 ∷ []
+abbrev pub number_text : Option ℕ → List ℕ
+number_text None = 45 ∷ []
+number_text (Some n) = decimal n
 
 abbrev pub bit_text : Bool → List ℕ
 bit_text true = 49 ∷ []

@@ -3,36 +3,36 @@ ghost use Rattle.trace.specs.Put.{Put};
 ghost use Rattle.play.specs.Answers.{answered_says};
 ghost use Rattle.field.specs.Inspect.{ack_words, timeout_words, told_words};
 
-use crate::words::put_number;
+use crate::words::{Line, put_value};
+use arith::refusal::Refusal;
 use model::{OnAckReceivedOutcome, OnLossDetectionTimeoutOutcome};
-use play::Answered;
-use trace::put::put_word;
+use play::Told;
 
-fn put_ack(out: &mut [u8], at: usize, tag: &[u8], o: OnAckReceivedOutcome) -> usize
-    ensures { Put out.old at (ack_words tag.now o) out.new result }
+fn put_ack(out: &mut Line, tag: &[u8], o: OnAckReceivedOutcome)
+    ensures { Put 2048 out.old (ack_words tag.now o) out.new }
 {
-    let packets = put_number(out, at, tag, b"lost_packets", o.lost_packets);
-    let bytes = put_number(out, packets, tag, b"lost_bytes", o.lost_bytes);
-    let acked = put_number(out, bytes, tag, b"acked_bytes", o.acked_bytes);
-    put_number(out, acked, tag, b"spurious", o.spurious_losses)
+    put_value(out, tag, b"lost_packets", o.lost_packets);
+    put_value(out, tag, b"lost_bytes", o.lost_bytes);
+    put_value(out, tag, b"acked_bytes", o.acked_bytes);
+    put_value(out, tag, b"spurious", o.spurious_losses);
 }
 
-fn put_timeout(out: &mut [u8], at: usize, tag: &[u8], o: OnLossDetectionTimeoutOutcome) -> usize
-    ensures { Put out.old at (timeout_words tag.now o) out.new result }
+fn put_timeout(out: &mut Line, tag: &[u8], o: OnLossDetectionTimeoutOutcome)
+    ensures { Put 2048 out.old (timeout_words tag.now o) out.new }
 {
-    let packets = put_number(out, at, tag, b"lost_packets", o.lost_packets);
-    put_number(out, packets, tag, b"lost_bytes", o.lost_bytes)
+    put_value(out, tag, b"lost_packets", o.lost_packets);
+    put_value(out, tag, b"lost_bytes", o.lost_bytes);
 }
 
 // What an accepted ack, timeout or take answered.
-pub fn put_told(out: &mut [u8], at: usize, tag: &[u8], told: Answered) -> usize
-    ensures { Put out.old at (told_words tag.now (answered_says told)) out.new result }
+#[tactic(auto, using(trace::proofs::Puts::put_none), unfolding(crate::specs::Inspect::told_words))]
+pub fn put_told(out: &mut Line, tag: &[u8], answered: Result<Told, Refusal>)
+    ensures { Put 2048 out.old (told_words tag.now (answered_says answered)) out.new }
 {
-    match told {
-        Answered::Done => put_word(out, at, b""),
-        Answered::Ack(o) => put_ack(out, at, tag, o),
-        Answered::Timeout(o) => put_timeout(out, at, tag, o),
-        Answered::Handle(handle) => put_number(out, at, tag, b"handle", handle),
-        Answered::Refused(_) => put_word(out, at, b""),
+    match answered {
+        Ok(Told::Ack(o)) => put_ack(out, tag, o),
+        Ok(Told::Timeout(o)) => put_timeout(out, tag, o),
+        Ok(Told::Handle(handle)) => put_value(out, tag, b"handle", handle),
+        Ok(Told::Done) | Err(_) => {}
     }
 }

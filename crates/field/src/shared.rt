@@ -1,82 +1,76 @@
 // What the spaces of a connection share, as words.
+ghost use Rattle.std.specs.Prelude.{◌≡◌};
 ghost use Rattle.trace.specs.Put.{Put};
 ghost use Rattle.field.specs.Inspect.{rtt_words, cubic_words, congestion_words, reordering_words, count_words, shared_words};
 
-use crate::words::{put_float, put_number, put_set, put_threshold, put_time};
+use crate::words::{Line, put_value};
 use model::{Congestion, Cubic, Reordering, Rtt, Shared};
 
 // The round-trip estimates; min and max are unset before a sample.
-pub fn put_rtt(out: &mut [u8], at: usize, tag: &[u8], r: Rtt) -> usize
-    ensures { Put out.old at (rtt_words tag.now r) out.new result }
+pub fn put_rtt(out: &mut Line, tag: &[u8], r: Rtt)
+    ensures { Put 2048 out.old (rtt_words tag.now r) out.new }
 {
-    let latest = r.latest_rtt;
-    let smoothed = r.smoothed_rtt;
-    let var = r.rttvar;
-    let min = r.min_rtt;
-    let max = r.max_rtt;
     let sampled = r.has_first_rtt_sample;
-    let a = put_number(out, at, tag, b"latest", latest.0);
-    let b = put_number(out, a, tag, b"smoothed", smoothed.0);
-    let c = put_number(out, b, tag, b"rttvar", var.0);
-    let d = put_set(out, c, tag, b"min", sampled, min.0);
-    put_set(out, d, tag, b"max", sampled, max.0)
+    put_value(out, tag, b"latest", r.latest_rtt.0);
+    put_value(out, tag, b"smoothed", r.smoothed_rtt.0);
+    put_value(out, tag, b"rttvar", r.rttvar.0);
+    put_value(out, tag, b"min", sampled.then_some(r.min_rtt.0));
+    put_value(out, tag, b"max", sampled.then_some(r.max_rtt.0));
 }
 
-pub fn put_cubic(out: &mut [u8], at: usize, tag: &[u8], c: Cubic) -> usize
-    ensures { Put out.old at (cubic_words tag.now c) out.new result }
+pub fn put_cubic(out: &mut Line, tag: &[u8], c: Cubic)
+    ensures { Put 2048 out.old (cubic_words tag.now c) out.new }
 {
-    let w_max = put_float(out, at, tag, b"w_max", c.w_max);
-    let k = put_float(out, w_max, tag, b"k", c.k);
-    let w_est = put_float(out, k, tag, b"w_est", c.w_est);
-    let alpha = put_float(out, w_est, tag, b"alpha", c.alpha_aimd);
-    put_number(out, alpha, tag, b"cwnd_inc", c.cwnd_inc)
+    put_value(out, tag, b"w_max", c.w_max);
+    put_value(out, tag, b"k", c.k);
+    put_value(out, tag, b"w_est", c.w_est);
+    put_value(out, tag, b"alpha", c.alpha_aimd);
+    put_value(out, tag, b"cwnd_inc", c.cwnd_inc);
 }
 
-pub fn put_congestion(out: &mut [u8], at: usize, tag: &[u8], g: Congestion) -> usize
-    ensures { Put out.old at (congestion_words tag.now g) out.new result }
+pub fn put_congestion(out: &mut Line, tag: &[u8], g: Congestion)
+    ensures { Put 2048 out.old (congestion_words tag.now g) out.new }
 {
-    let cubic = g.cubic;
-    let start = g.congestion_recovery_start_time;
-    let a = put_number(out, at, tag, b"ssthresh", g.ssthresh);
-    let b = put_cubic(out, a, tag, cubic);
-    let c = put_number(out, b, tag, b"bytes_acked_sl", g.bytes_acked_sl);
-    let d = put_time(out, c, tag, b"recovery_start", start);
-    put_number(out, d, tag, b"lost_count", g.lost_count)
+    put_value(out, tag, b"ssthresh", g.ssthresh);
+    put_cubic(out, tag, g.cubic);
+    put_value(out, tag, b"bytes_acked_sl", g.bytes_acked_sl);
+    put_value(
+        out,
+        tag,
+        b"recovery_start",
+        g.congestion_recovery_start_time,
+    );
+    put_value(out, tag, b"lost_count", g.lost_count);
 }
 
-pub fn put_reordering(out: &mut [u8], at: usize, tag: &[u8], r: Reordering) -> usize
-    ensures { Put out.old at (reordering_words tag.now r) out.new result }
+pub fn put_reordering(out: &mut Line, tag: &[u8], r: Reordering)
+    ensures { Put 2048 out.old (reordering_words tag.now r) out.new }
 {
-    let threshold = r.time_thresh;
-    let a = put_number(out, at, tag, b"lost_spurious_count", r.lost_spurious_count);
-    let b = put_number(out, a, tag, b"pkt_thresh", r.pkt_thresh);
-    put_threshold(out, b, tag, b"time_thresh", threshold)
+    put_value(out, tag, b"lost_spurious_count", r.lost_spurious_count);
+    put_value(out, tag, b"pkt_thresh", r.pkt_thresh);
+    put_value(out, tag, b"time_thresh", r.time_thresh);
 }
 
 // The PTO count, the run of non-eliciting packets and the bytes that may be sent.
-pub fn put_counts(out: &mut [u8], at: usize, tag: &[u8], count: u64, run: u64, bytes: u64) -> usize
-    ensures { Put out.old at (count_words tag.now count run bytes) out.new result }
+pub fn put_counts(out: &mut Line, tag: &[u8], count: u64, run: u64, bytes: u64)
+    ensures { Put 2048 out.old (count_words tag.now count run bytes) out.new }
 {
-    let a = put_number(out, at, tag, b"pto_count", count);
-    let b = put_number(out, a, tag, b"outstanding_non_ack_eliciting", run);
-    put_number(out, b, tag, b"cwnd_available", bytes)
+    put_value(out, tag, b"pto_count", count);
+    put_value(out, tag, b"outstanding_non_ack_eliciting", run);
+    put_value(out, tag, b"cwnd_available", bytes);
 }
 
-pub fn put_shared(out: &mut [u8], at: usize, tag: &[u8], s: Shared, bytes: u64) -> usize
-    ensures { Put out.old at (shared_words tag.now s bytes) out.new result }
+pub fn put_shared(out: &mut Line, tag: &[u8], s: Shared, bytes: u64)
+    ensures { Put 2048 out.old (shared_words tag.now s bytes) out.new }
 {
-    let rtt = s.rtt;
-    let congestion = s.congestion;
-    let reordering = s.reordering;
-    let a = put_rtt(out, at, tag, rtt);
-    let b = put_congestion(out, a, tag, congestion);
-    let c = put_reordering(out, b, tag, reordering);
+    put_rtt(out, tag, s.rtt);
+    put_congestion(out, tag, s.congestion);
+    put_reordering(out, tag, s.reordering);
     put_counts(
         out,
-        c,
         tag,
         s.pto_count,
         s.outstanding_non_ack_eliciting,
         bytes,
-    )
+    );
 }

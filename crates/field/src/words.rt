@@ -1,14 +1,17 @@
-// Words `name=value` written into a lent buffer from a place on; each answers the place after. What does not fit is dropped.
-ghost use Rattle.std.specs.Prelude.{[], ◌∷◌, ◌++◌, ◌≡◌, suc, ◌%◌};
+// Words `name=value`, put behind what a line has.
+ghost use Rattle.std.specs.Prelude.{[], ◌∷◌, ◌++◌, ◌≡◌, ℕ, List, suc, ◌%◌};
 ghost use Rattle.std.specs.Float.{binary64};
 ghost use Rattle.std.specs.Float.Ieee.{to_bits};
 ghost use Rattle.model.specs.Trace.{decimal, timer_text};
 ghost use Rattle.trace.specs.Put.{Put};
-ghost use Rattle.field.specs.Words.{named, number_text, set_text, bit_text, threshold_text, hex_digit, hex, float_text};
+ghost use Rattle.field.specs.Words.{named, number_text, bit_text, threshold_text, hex_digit, hex, float_text};
 
 use arith::round::TimeThreshold;
-use model::{Number, Time};
-use trace::put::{put_byte, put_decimal, put_timer, put_word};
+use arith::time::Moment;
+use trace::text::Text;
+
+// Room for any line.
+pub type Line = Text<2048>;
 
 // The pattern that stands for every NaN.
 const NAN_BITS: u64 = 9221120237041090560;
@@ -19,105 +22,103 @@ fn hex_digit(n: u64) -> u8
 {
     let d = n % 16;
     if d < 10 {
-        return (48 + d) as u8;
+        (48 + d) as u8
+    } else {
+        (87 + d) as u8
     }
-    (87 + d) as u8
 }
 
 // A number's last hex digits: one, and so many more before it.
-pub fn put_hex(out: &mut [u8], at: usize, n: u64, more: usize) -> usize
-    ensures { Put out.old at (hex (suc more) n []) out.new result }
+pub fn put_hex(out: &mut Line, n: u64, more: usize)
+    ensures { Put 2048 out.old (hex (suc more) n []) out.new }
 {
-    if more == 0 {
-        return put_byte(out, at, hex_digit(n));
+    if more > 0 {
+        put_hex(out, n / 16, more - 1);
     }
-    let place = put_hex(out, at, n / 16, more - 1);
-    put_byte(out, place, hex_digit(n))
+    out.put_byte(hex_digit(n));
 }
 
 // The bits of a float.
 pub fn bits_of(x: f64) -> u64
     ensures { result ≡ to_bits binary64 x }
 {
-    if x == x {
-        return f64::to_bits(x);
-    }
-    NAN_BITS
+    if x == x { f64::to_bits(x) } else { NAN_BITS }
 }
 
-// What stands before a word, its name and `=`.
-fn put_name(out: &mut [u8], at: usize, tag: &[u8], name: &[u8]) -> usize
-    ensures { Put out.old at (tag.now ++ (name.now ++ (61 ∷ []))) out.new result }
-{
-    let after_tag = put_word(out, at, tag);
-    let after_name = put_word(out, after_tag, name);
-    put_byte(out, after_name, b'=')
+// What stands behind a word's `=`.
+pub trait Value {
+    ghost text: { Self → List ℕ };
+
+    fn put(self, out: &mut Line)
+        ensures { Put 2048 out.old (text self) out.new };
 }
 
 // A number in decimal.
-pub fn put_number(out: &mut [u8], at: usize, tag: &[u8], name: &[u8], n: u64) -> usize
-    ensures { Put out.old at (named tag.now name.now (decimal n)) out.new result }
-{
-    let place = put_name(out, at, tag, name);
-    put_decimal(out, place, n)
+impl Value for u64 {
+    ghost text = { decimal };
+
+    fn put(self, out: &mut Line) {
+        out.put_decimal(self);
+    }
 }
 
 // A moment in nanoseconds, or `-`.
-pub fn put_time(out: &mut [u8], at: usize, tag: &[u8], name: &[u8], t: Time) -> usize
-    ensures { Put out.old at (named tag.now name.now (timer_text t)) out.new result }
-{
-    let place = put_name(out, at, tag, name);
-    put_timer(out, place, t)
-}
+impl Value for Option<Moment> {
+    ghost text = { timer_text };
 
-// A number where it is set, else `-`.
-pub fn put_set(out: &mut [u8], at: usize, tag: &[u8], name: &[u8], set: bool, n: u64) -> usize
-    ensures { Put out.old at (named tag.now name.now (set_text set n)) out.new result }
-{
-    let place = put_name(out, at, tag, name);
-    if set {
-        return put_decimal(out, place, n);
+    fn put(self, out: &mut Line) {
+        out.put_timer(self);
     }
-    put_byte(out, place, b'-')
 }
 
-// A packet number, or `-`.
-pub fn put_packet_number(out: &mut [u8], at: usize, tag: &[u8], name: &[u8], n: Number) -> usize
-    ensures { Put out.old at (named tag.now name.now (number_text n)) out.new result }
-{
-    let place = put_name(out, at, tag, name);
-    match n {
-        Number::Missing => put_byte(out, place, b'-'),
-        Number::Is(number) => put_decimal(out, place, number),
+// A number, or `-`.
+impl Value for Option<u64> {
+    ghost text = { number_text };
+
+    fn put(self, out: &mut Line) {
+        match self {
+            None => out.put_byte(b'-'),
+            Some(n) => out.put_decimal(n),
+        }
     }
 }
 
 // 1 or 0.
-pub fn put_bit(out: &mut [u8], at: usize, tag: &[u8], name: &[u8], b: bool) -> usize
-    ensures { Put out.old at (named tag.now name.now (bit_text b)) out.new result }
-{
-    let place = put_name(out, at, tag, name);
-    if b {
-        return put_byte(out, place, b'1');
+impl Value for bool {
+    ghost text = { bit_text };
+
+    fn put(self, out: &mut Line) {
+        out.put_byte(if self { b'1' } else { b'0' });
     }
-    put_byte(out, place, b'0')
 }
 
 // A float as the 16 hex digits of its bits.
-pub fn put_float(out: &mut [u8], at: usize, tag: &[u8], name: &[u8], x: f64) -> usize
-    ensures { Put out.old at (named tag.now name.now (float_text x)) out.new result }
-{
-    let place = put_name(out, at, tag, name);
-    put_hex(out, place, bits_of(x), 15)
+impl Value for f64 {
+    ghost text = { float_text };
+
+    fn put(self, out: &mut Line) {
+        put_hex(out, bits_of(self), 15);
+    }
 }
 
 // `9/8` or `5/4`.
-pub fn put_threshold(out: &mut [u8], at: usize, tag: &[u8], name: &[u8], t: TimeThreshold) -> usize
-    ensures { Put out.old at (named tag.now name.now (threshold_text t)) out.new result }
-{
-    let place = put_name(out, at, tag, name);
-    match t {
-        TimeThreshold::NineEighths => put_word(out, place, b"9/8"),
-        TimeThreshold::FiveFourths => put_word(out, place, b"5/4"),
+impl Value for TimeThreshold {
+    ghost text = { threshold_text };
+
+    fn put(self, out: &mut Line) {
+        match self {
+            TimeThreshold::NineEighths => out.put_word(b"9/8"),
+            TimeThreshold::FiveFourths => out.put_word(b"5/4"),
+        }
     }
+}
+
+// What stands before a word, its name, `=` and its value.
+pub fn put_value<V: Value>(out: &mut Line, tag: &[u8], name: &[u8], value: V)
+    ensures { Put 2048 out.old (named tag.now name.now (V.text value)) out.new }
+{
+    out.put_word(tag);
+    out.put_word(name);
+    out.put_byte(b'=');
+    value.put(out);
 }

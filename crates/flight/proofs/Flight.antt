@@ -10,54 +10,52 @@ use Rattle.arith.specs.Whole.{within, sum_of, times_of}
 use Rattle.arith.specs.Time.{span}
 use Rattle.arith.specs.declared.time.Moment.{Moment}
 use Rattle.arith.specs.declared.time.Span.{Span}
-use Rattle.arith.specs.declared.time.Sum.TheVariants.{Fine}
 use Rattle.arith.proofs.Laws.{within-fine, fine-is, sum_is}
 use Rattle.model.specs.Ack.{Met, meet_all, reordered}
 use Rattle.model.specs.Connection.{Space, Connection, outstanding, space_at, with_space, with_shared, with_timer, facts_of, timed, fresh, space_fresh, shared_fresh, epoch_fresh}
 use Rattle.model.specs.Control.{Move, resize, control, forgive_by, ack_each}
 use Rattle.model.specs.Events.{Step, run_after, is_packet, is_newer, space_sent, shared_sent, sent_in_flight, sent_aside, on_packet_sent, detect_lost_packets, stored_largest, sampled, space_acked, outcome, acked_nothing, shared_acked, drained_again, acked_some, acked_by, acknowledge, on_ack_received, timeout_outcome, shared_timeout, timeout_loss, probe_queue, space_probed, timeout_probe, timeout_by, on_loss_detection_timeout, space_discarded, on_space_discarded, on_size_change, next_acked_frame, taken_lost, next_lost_frame, ping_sent}
-use Rattle.model.specs.Numbers.{Result, accepted, refused, then, on_clock, is_space, is_datagram_size, capacity, are_settings}
+use Rattle.arith.specs.Refusals.{then}
+use Rattle.model.specs.Numbers.{on_clock, is_space, is_datagram_size, capacity, are_settings}
 use Rattle.model.specs.Ranges.{are_ranges, hold_skipped, is_skipped, largest_for}
 use Rattle.model.specs.Run.{Event, sent, acked, timeout, discarded, size_change, take_acked, take_lost, ping, Answer, done, of_ack, of_timeout, handle, answering, step, state_by, after, run}
 use Rattle.model.specs.Sent.{sent_now, covered, drained}
 use Rattle.model.specs.Timer.{timer_of, loss_time_and_space, probe_space}
 use Rattle.model.specs.declared.HandshakeStatus.{HandshakeStatus}
-use Rattle.model.specs.declared.Number.{Number}
-use Rattle.model.specs.declared.Number.TheVariants.{Missing, Is}
 use Rattle.model.specs.declared.Packet.{Packet}
-use Rattle.model.specs.declared.Refusal.TheVariants.{Clock, Domain, Stale, Ranges, Skipped, Full}
+use Rattle.arith.specs.declared.refusal.Refusal.TheVariants.{Clock, Domain, Stale, Ranges, Skipped, Full}
 use Rattle.model.specs.declared.Reordering.{Reordering}
 use Rattle.model.specs.declared.Sent.{Sent}
 use Rattle.model.specs.declared.Settings.{Settings}
-use Rattle.model.specs.declared.Time.{Time}
-use Rattle.model.specs.declared.Time.TheVariants.{Unset, At}
 use Rattle.model.specs.declared.TimeAndSpace.{TimeAndSpace}
-use Rattle.model.proofs.Peel.{All, all-is, all_then, all-cond, all-reached, all-reach, all-must, no_value}
+use Rattle.model.proofs.Peel.{All, all-is, all_then, all-cond, all-reach, all-must, no_value}
 use Rattle.audit.specs.Total.{total_of, all_records}
 use Rattle.audit.proofs.Audited.{of_parts}
 use Rattle.flight.specs.Flight.{count_out, Counted, Agrees, InFlight}
 use Rattle.flight.proofs.Records.{counted-parts, out-bytes, out-count, gone-bytes, gone-count, aside, both}
 use Rattle.flight.proofs.Gathered.{Taken, meet-all}
 use Rattle.flight.proofs.Spaces.{share, counted, put, put_same, shared_same, Shrunk, detects, acked-space, drained-space}
+use Rattle.std.specs.Prelude.{Result, Ok, Err, Option, Some, None}
+use Rattle.arith.specs.declared.refusal.Refusal.{Refusal}
 
 -- what an event leaves agrees
 abbrev After : {A : Type 0} → Step A → Type 0
 After x = Agrees x.state
 
-through : {A : Type 0} (f : A → Answer) (r : Result (Step A)) → All After r → All After (answering f r)
-through f (accepted x) h = all-is After _ (h x refl)
-through f (refused n) h = λ y e. no_value e
+through : {A : Type 0} (f : A → Answer) (r : Result (Step A) Refusal) → All After r → All After (answering f r)
+through f (Ok x) h = all-is After _ (h x refl)
+through f (Err n) h = λ y e. no_value e
 
 timed-agrees : (now : Moment) (status : HandshakeStatus) (c : Connection) → Agrees c → All Agrees (timed now status c)
 unfolding timed
 timed-agrees now status c a =
-    all_then Agrees (timer_of (facts_of now status c)) (λ t. accepted (with_shared (with_timer t c.shared) c)) λ t e. all-is Agrees _ (shared_same c a (with_timer t c.shared) refl)
+    all_then Agrees (timer_of (facts_of now status c)) (λ t. Ok (with_shared (with_timer t c.shared) c)) λ t e. all-is Agrees _ (shared_same c a (with_timer t c.shared) refl)
 
 -- an event that ends in the timer, and perhaps in something that leaves what agrees
 ends : {A : Type 0} (now : Moment) (status : HandshakeStatus) (d : Connection) (x : A) (ms : List Move) (f : Connection → Connection) → ((e : Connection) → Agrees e → Agrees (f e)) → Agrees d →
-    All After (then (timed now status d) λ e. accepted (record { state = f e; answer = x; moves = ms }))
+    All After (then (timed now status d) λ e. Ok (record { state = f e; answer = x; moves = ms }))
 ends now status d x ms f keeps a =
-    all_then After (timed now status d) (λ e. accepted (record { state = f e; answer = x; moves = ms })) λ e q.
+    all_then After (timed now status d) (λ e. Ok (record { state = f e; answer = x; moves = ms })) λ e q.
     all-is After (record { state = f e; answer = x; moves = ms }) (keeps e (timed-agrees now status d a e q))
 
 module _ (c : Connection) (a : Agrees c) where
@@ -73,8 +71,8 @@ module _ (c : Connection) (a : Agrees c) where
     sent-flying : (status : HandshakeStatus) (run : ℕ) → p.in_flight ≡ true → All After (sent_in_flight now n p status run c)
     unfolding sent_in_flight sent_now
     sent-flying status run flies =
-        all-reached After (sum_of (space_at n c).epoch.in_flight_count 1) _ λ in_flight e.
-        all-reached After (sum_of c.shared.bytes_in_flight p.size) _ λ bytes f.
+        all_then After (sum_of (space_at n c).epoch.in_flight_count 1) _ λ in_flight e.
+        all_then After (sum_of c.shared.bytes_in_flight p.size) _ λ bytes f.
         let out = both (sent_now now p) flies refl in
         ends now status (with_shared (shared_sent now run bytes c.shared) (with_space n (space_sent now p in_flight (space_at n c)) c)) 0 [] (λ e. e) (λ e b. b)
         (put n c a (space_sent now p in_flight (space_at n c))
@@ -121,14 +119,14 @@ module _ (c : Connection) (a : Agrees c) where
         (put n c a (space_acked l m (space_at n c).epoch.largest_acked_packet (space_at n c)) (x.counted (counted n c a)) _ a.small (omega (arith, x.bytes)))
 
     some-agrees : (delay : Span) (status : HandshakeStatus) (limited : Bool) (l : List Sent) (m : Met) (last : Sent) (o : Reordering) →
-        ((largest : Number) → Shrunk (space_at n c) (space_acked l m largest (space_at n c)) m.acked_bytes) → All After (acked_some now n delay status limited l m last o c)
+        ((largest : Option ℕ) → Shrunk (space_at n c) (space_acked l m largest (space_at n c)) m.acked_bytes) → All After (acked_some now n delay status limited l m last o c)
     unfolding acked_some
     some-agrees delay status limited l m last o shrunk =
         all_then After (sampled now delay status old last m.newly c.shared.rtt) _ λ rtt x.
-        all_then After (detect_lost_packets now rtt o c.shared.bytes_in_flight (space_acked l m (Is (stored_largest old last)) (space_at n c))) _ λ d y.
+        all_then After (detect_lost_packets now rtt o c.shared.bytes_in_flight (space_acked l m (Some (stored_largest old last)) (space_at n c))) _ λ d y.
         all_then After (control (forgive_by m.spurious_in_flight ++ (d.moves ++ ack_each now limited rtt.min_rtt m.newly)) c.shared.congestion) _ λ h z.
-        let s = shrunk (Is (stored_largest old last)) in
-        let t = detects now rtt o c.shared.bytes_in_flight (space_acked l m (Is (stored_largest old last)) (space_at n c)) d y in
+        let s = shrunk (Some (stored_largest old last)) in
+        let t = detects now rtt o c.shared.bytes_in_flight (space_acked l m (Some (stored_largest old last)) (space_at n c)) d y in
         ends now status (with_shared (shared_acked now rtt o (d.bytes - m.acked_bytes) h c.shared) (with_space n d.space c))
         (outcome d.packets d.lost_bytes m.acked_bytes m.spurious) _ (λ e. with_space n (drained_again now rtt (space_at n e)) e)
         (λ e b. let w = drained-space now rtt (space_at n e) in put_same n e b (drained_again now rtt (space_at n e)) (w.counted (counted n e b)) (omega (arith, w.bytes)))
@@ -136,11 +134,11 @@ module _ (c : Connection) (a : Agrees c) where
         (omega (arith, a.small, t.left))
         (omega (arith, t.left, t.shrunk.bytes, s.bytes, share n c a)))
       where
-        old : Number
+        old : Option ℕ
         old = (space_at n c).epoch.largest_acked_packet
 
     by_agrees : (r : Sent) (ns : List Sent) (delay : Span) (status : HandshakeStatus) (limited : Bool) (l : List Sent) (m : Met) (o : Reordering) →
-        ((largest : Number) → Shrunk (space_at n c) (space_acked l m largest (space_at n c)) m.acked_bytes) → All After (acked_by (r ∷ ns) now n delay status limited l m o c)
+        ((largest : Option ℕ) → Shrunk (space_at n c) (space_acked l m largest (space_at n c)) m.acked_bytes) → All After (acked_by (r ∷ ns) now n delay status limited l m o c)
     unfolding acked_by
     by_agrees r [] delay status limited l m o x = some-agrees delay status limited l m r o x
     by_agrees r (q ∷ ns) delay status limited l m o x = by_agrees q ns delay status limited l m o x
@@ -153,7 +151,7 @@ module _ (c : Connection) (a : Agrees c) where
           acked_bytes = 0;
           in_flight = (space_at n c).epoch.in_flight_count;
           spurious = 0;
-          distance = Missing;
+          distance = None;
           spurious_in_flight = false;
         }
 
@@ -167,7 +165,7 @@ module _ (c : Connection) (a : Agrees c) where
     either-agrees l m smoothed x (r ∷ ns) e delay status limited o =
         by_agrees r ns delay status limited (drained now smoothed l) m o (λ largest. acked-space now smoothed (space_at n c) l begun m largest refl refl x)
 
-    ack-agrees : (words : List ℕ) (delay : ℕ) (status : HandshakeStatus) (limited : Bool) (skipped : Number) → All After (on_ack_received now n words delay status limited skipped c)
+    ack-agrees : (words : List ℕ) (delay : ℕ) (status : HandshakeStatus) (limited : Bool) (skipped : Option ℕ) → All After (on_ack_received now n words delay status limited skipped c)
     unfolding on_ack_received acknowledge
     ack-agrees words delay status limited skipped =
         all-must After (on_clock c.shared.clock now) Clock _
@@ -194,8 +192,8 @@ module _ (c : Connection) (a : Agrees c) where
       earliest : TimeAndSpace
       earliest = loss_time_and_space c.initial.epoch c.handshake.epoch c.application.epoch
 
-      by : (t : Time) → All After (timeout_by t earliest.space now status c)
-      by (At t) =
+      by : (t : Option Moment) → All After (timeout_by t earliest.space now status c)
+      by (Some t) =
           all_then After (detect_lost_packets now c.shared.rtt c.shared.reordering c.shared.bytes_in_flight (space_at earliest.space c)) _ λ d y.
           all_then After (control d.moves c.shared.congestion) _ λ h z.
           let t = detects now c.shared.rtt c.shared.reordering c.shared.bytes_in_flight (space_at earliest.space c) d y in
@@ -204,7 +202,7 @@ module _ (c : Connection) (a : Agrees c) where
           (put earliest.space c a d.space (t.shrunk.counted (counted earliest.space c a)) (shared_timeout now c.shared.pto_count d.bytes h c.shared)
           (omega (arith, a.small, t.left))
           (omega (arith, t.left, t.shrunk.bytes, share earliest.space c a)))
-      by Unset =
+      by None =
           all_then After (probe_space (facts_of now status c)) _ λ n x.
           all-cond After (leb (c.shared.pto_count + 1) 4294967295) _ _
           (λ e.
@@ -223,7 +221,7 @@ module _ (c : Connection) (a : Agrees c) where
   discard-agrees now n status =
       all-must After (on_clock c.shared.clock now) Clock _
       (all-must After (is_space n) Domain _
-      (all-reached After (within (outstanding (space_at n c).records)) _ λ bytes e.
+      (all_then After (within (outstanding (space_at n c).records)) _ λ bytes e.
       ends now status
       (with_shared (shared_timeout now c.shared.pto_count (c.shared.bytes_in_flight - bytes) c.shared.congestion c.shared) (with_space n (space_discarded (space_at n c)) c))
       0 [] (λ e. e) (λ e b. b)
@@ -238,10 +236,10 @@ module _ (c : Connection) (a : Agrees c) where
       (all_then After (control (resize c.shared.max_datagram_size size ∷ []) c.shared.congestion) _ λ h e. all-is After _ (shared_same c a _ refl))
 
   still : {A : Type 0} (n : ℕ) (t : Space) (x : A) → t.records ≡ (space_at n c).records → t.epoch.in_flight_count ≡ (space_at n c).epoch.in_flight_count →
-      All After (accepted (record { state = with_space n t c; answer = x; moves = [] }))
+      All After (Ok (record { state = with_space n t c; answer = x; moves = [] }))
   still n t x e f = all-is After _ (put_same n c a t (quiet n t e f) (ap outstanding (sym e)))
 
-  taken : (l : List ℕ) (n : ℕ) → All After (accepted (taken_lost l n (space_at n c) c))
+  taken : (l : List ℕ) (n : ℕ) → All After (Ok (taken_lost l n (space_at n c) c))
   unfolding taken_lost
   taken [] n = still n _ _ refl refl
   taken (h ∷ q) n = still n _ _ refl refl
@@ -262,9 +260,9 @@ agrees_after : (e : Event) (c : Connection) → Agrees c → Agrees (after e c)
 unfolding after
 agrees_after e c a = go (step e c) (agrees-step c a e)
   where
-    go : (r : Result (Step Answer)) → All After r → Agrees (state_by c r)
-    go (accepted x) h = h x refl
-    go (refused n) h = a
+    go : (r : Result (Step Answer) Refusal) → All After r → Agrees (state_by c r)
+    go (Ok x) h = h x refl
+    go (Err n) h = a
 
 pub agrees-run : (calls : List Event) (c : Connection) → Agrees c → Agrees (run calls c)
 unfolding run
@@ -276,13 +274,13 @@ unfolding fresh space_fresh shared_fresh epoch_fresh outstanding count_out
 agrees-fresh s = all-must Agrees (are_settings s) Domain _ (all-is Agrees _ (record { bytes = refl; small = omega arith; initial = refl; handshake = refl; application = refl }))
 
 -- what agrees is what an audit of all records answers
-audit-agrees : (c : Connection) → Agrees c → total_of (all_records c) ≡ Fine c.shared.bytes_in_flight
+audit-agrees : (c : Connection) → Agrees c → total_of (all_records c) ≡ Ok c.shared.bytes_in_flight
 unfolding total_of all_records
 audit-agrees c a =
     ap within (of_parts c.initial.records _ ∙ ap (λ (k : ℕ). outstanding c.initial.records + k) (of_parts c.handshake.records _) ∙ sym a.bytes)
     ∙ within-fine c.shared.bytes_in_flight a.small
 
-pub in-flight : (s : Settings) (c : Connection) → fresh s ≡ accepted c → (calls : List Event) → InFlight c calls
+pub in-flight : (s : Settings) (c : Connection) → fresh s ≡ Ok c → (calls : List Event) → InFlight c calls
 in-flight s c e calls =
     let a = agrees-run calls c (agrees-fresh s c e) in
     record { audit = audit-agrees (run calls c) a; agrees = a }

@@ -11,21 +11,23 @@ use Rattle.arith.specs.Time.{later_of}
 use Rattle.arith.proofs.Laws.{sum_is}
 use Rattle.model.specs.Ack.{Met, meet_lost, newly_met, meet_by, keep_acked, meet_all}
 use Rattle.model.specs.Loss.{is_lost, Lost, Detected, lose, lose_probe, lose_packet, keep_detected, detect_by, detect}
-use Rattle.model.specs.Numbers.{Result, accepted, refused, then, reach, capacity}
+use Rattle.arith.specs.Refusals.{then}
+use Rattle.model.specs.Numbers.{capacity}
 use Rattle.model.specs.Sent.{standing, marked, queued}
 use Rattle.model.specs.declared.Judge.{Judge}
-use Rattle.model.specs.declared.Refusal.TheVariants.{Full}
+use Rattle.arith.specs.declared.refusal.Refusal.TheVariants.{Full}
 use Rattle.model.specs.declared.Sent.{Sent}
-use Rattle.model.specs.declared.Time.{Time}
-use Rattle.model.specs.declared.Time.TheVariants.{Unset, At}
-use Rattle.model.proofs.Peel.{All, all-is, all_then, all-cond, all-reached, all-moment, no_value}
+use Rattle.model.proofs.Peel.{All, all-is, all_then, all-cond, all-reach, no_value}
 use Rattle.flight.proofs.Records.{Less, less_none, less-first, less-out, less-neither, fallen, aside, both, acked-fallen, lost-fallen, is-standing, marked-acked, marked-lost}
+use Rattle.std.specs.Prelude.{Result, Ok, Err, Option, Some, None}
+use Rattle.arith.specs.declared.time.Moment.{Moment}
+use Rattle.arith.specs.declared.refusal.Refusal.{Refusal}
 
 -- whatever a queue holds after a handle
-pub all-queued : {A : Type 0} (P : A → Type 0) (handle : ℕ) (q : List ℕ) (k : List ℕ → Result A) → ((p : List ℕ) → All P (k p)) → All P (queued handle q k)
+pub all-queued : {A : Type 0} (P : A → Type 0) (handle : ℕ) (q : List ℕ) (k : List ℕ → Result A Refusal) → ((p : List ℕ) → All P (k p)) → All P (queued handle q k)
 all-queued P handle q k h =
-    all-cond P (eqb handle 0) (k q) (cond (ltb (length q) capacity) (k (q ++ (handle ∷ []))) (refused Full)) (λ e. h q)
-    (λ e. all-cond P (ltb (length q) capacity) (k (q ++ (handle ∷ []))) (refused Full) (λ f. h (q ++ (handle ∷ []))) (λ f a p. no_value p))
+    all-cond P (eqb handle 0) (k q) (cond (ltb (length q) capacity) (k (q ++ (handle ∷ []))) (Err Full)) (λ e. h q)
+    (λ e. all-cond P (ltb (length q) capacity) (k (q ++ (handle ∷ []))) (Err Full) (λ f. h (q ++ (handle ∷ []))) (λ f a p. no_value p))
 
 -- ---- an acknowledgement
 
@@ -90,19 +92,19 @@ module _ (largest : ℕ) (r : Sent) (m : Met) where
   unfolding meet_by
   meet_one = go r.acked refl r.time_lost refl
     where
-      go : (a : Bool) → r.acked ≡ a → (t : Time) → r.time_lost ≡ t → All TakenOne (meet_by a t largest r m)
+      go : (a : Bool) → r.acked ≡ a → (t : Option Moment) → r.time_lost ≡ t → All TakenOne (meet_by a t largest r m)
       go true e t f = all-is TakenOne m (unchanged m (acked-fallen r e) refl refl refl)
-      go false e (At t) f = all-is TakenOne (meet_lost largest r m) (unchanged (meet_lost largest r m) (lost-fallen r f) refl refl refl)
-      go false e Unset f =
+      go false e (Some t) f = all-is TakenOne (meet_lost largest r m) (unchanged (meet_lost largest r m) (lost-fallen r f) refl refl refl)
+      go false e None f =
           all-queued TakenOne r.handle m.queue
           (λ q.
-          cond r.in_flight (reach (sum_of m.acked_bytes r.size) λ n. accepted (newly_met r m q n (m.in_flight - 1)))
-          (accepted (newly_met r m q m.acked_bytes m.in_flight))) λ q.
+          cond r.in_flight (then (sum_of m.acked_bytes r.size) λ n. Ok (newly_met r m q n (m.in_flight - 1)))
+          (Ok (newly_met r m q m.acked_bytes m.in_flight))) λ q.
           all-cond TakenOne r.in_flight
-          (reach (sum_of m.acked_bytes r.size) λ n. accepted (newly_met r m q n (m.in_flight - 1)))
-          (accepted (newly_met r m q m.acked_bytes m.in_flight))
+          (then (sum_of m.acked_bytes r.size) λ n. Ok (newly_met r m q n (m.in_flight - 1)))
+          (Ok (newly_met r m q m.acked_bytes m.in_flight))
           (λ flies.
-          all-reached TakenOne (sum_of m.acked_bytes r.size) (λ n. accepted (newly_met r m q n (m.in_flight - 1))) λ n s.
+          all_then TakenOne (sum_of m.acked_bytes r.size) (λ n. Ok (newly_met r m q n (m.in_flight - 1))) λ n s.
           all-is TakenOne (newly_met r m q n (m.in_flight - 1))
           (record {
             b = r.size;
@@ -133,12 +135,12 @@ unfolding meet_all keep_acked
 meet-all largest [] l m = all-is (λ a. Taken l a.records m a.met) (record { records = l; met = m }) (taken_none l l m (less_none l))
 meet-all largest (b ∷ bs) [] m = all-is (λ a. Taken [] a.records m a.met) (record { records = []; met = m }) (taken_none [] [] m (less_none []))
 meet-all largest (false ∷ bs) (r ∷ l) m =
-    all_then (λ a. Taken (r ∷ l) a.records m a.met) (meet_all largest bs l m) (λ a. accepted (keep_acked r a)) λ a e.
+    all_then (λ a. Taken (r ∷ l) a.records m a.met) (meet_all largest bs l m) (λ a. Ok (keep_acked r a)) λ a e.
     all-is (λ a. Taken (r ∷ l) a.records m a.met) (keep_acked r a) (taken-first (taken_none (r ∷ []) (r ∷ []) m (less_none (r ∷ []))) (meet-all largest bs l m a e))
 meet-all largest (true ∷ bs) (r ∷ l) m =
     all_then (λ a. Taken (r ∷ l) a.records m a.met) (meet_by r.acked r.time_lost largest r m)
-    (λ n. then (meet_all largest bs l n) λ a. accepted (keep_acked (marked r true r.time_lost) a)) λ t e.
-    all_then (λ a. Taken (r ∷ l) a.records m a.met) (meet_all largest bs l t) (λ a. accepted (keep_acked (marked r true r.time_lost) a)) λ a f.
+    (λ n. then (meet_all largest bs l n) λ a. Ok (keep_acked (marked r true r.time_lost) a)) λ t e.
+    all_then (λ a. Taken (r ∷ l) a.records m a.met) (meet_all largest bs l t) (λ a. Ok (keep_acked (marked r true r.time_lost) a)) λ a f.
     all-is (λ a. Taken (r ∷ l) a.records m a.met) (keep_acked (marked r true r.time_lost) a)
     (taken-first (meet_one largest r m t e) (meet-all largest bs l t a f))
 
@@ -170,7 +172,7 @@ gone-first {r} {q} {l} {k} x y =
 
 module _ (j : Judge) (r : Sent) (s : Lost) (stands : standing r ≡ true) where
   abbrev q : Sent
-  q = marked r false (At j.now)
+  q = marked r false (Some j.now)
 
   abbrev GoneOne : Lost → Type 0
   GoneOne t = Gone (r ∷ []) (q ∷ []) s t
@@ -190,13 +192,13 @@ module _ (j : Judge) (r : Sent) (s : Lost) (stands : standing r ≡ true) where
       (λ e.
       all-cond GoneOne r.in_flight _ _
       (λ flies.
-      all-reached GoneOne (sum_of s.probe_bytes r.size) _ λ n f.
+      all_then GoneOne (sum_of s.probe_bytes r.size) _ λ n f.
       all-is GoneOne _ (record { b = 0; p = r.size; n = 1; less = let z = out flies in record { bytes = omega (arith, z.bytes); count = z.count }; bytes = omega arith; probes = (sum_is s.probe_bytes r.size f).0; in_flight = refl }))
       (λ lies. all-is GoneOne _ (kept _ lies refl refl refl)))
       (λ e.
       all-cond GoneOne r.in_flight _ _
       (λ flies.
-      all-reached GoneOne (sum_of s.bytes r.size) _ λ n f.
+      all_then GoneOne (sum_of s.bytes r.size) _ λ n f.
       all-is GoneOne _
       (record {
         b = r.size;
@@ -218,18 +220,18 @@ module _ (j : Judge) (r : Sent) (l : List Sent) (s : Lost) where
 
   by-verdict : (a b : Bool) → standing r ≡ b → (v : Bool) → ((t : Lost) → All (λ d. Gone l d.records t d.lost) (detect j l t)) → All GoneAll (detect_by a b v j r l s (detect j l))
   unfolding detect_by keep_detected
-  by-verdict true b e v ih = all-is GoneAll (record { records = r ∷ l; lost = s; loss_time = Unset }) here
+  by-verdict true b e v ih = all-is GoneAll (record { records = r ∷ l; lost = s; loss_time = None }) here
   by-verdict false false e v ih =
-      all_then GoneAll (detect j l s) (λ d. accepted (keep_detected r d)) λ d f.
+      all_then GoneAll (detect j l s) (λ d. Ok (keep_detected r d)) λ d f.
       all-is GoneAll (keep_detected r d) (gone-first (gone-none (r ∷ []) (r ∷ []) s (less_none (r ∷ []))) (ih s d f))
   by-verdict false true e false ih =
-      all-moment GoneAll (later_of r.time_sent j.delay) (λ t. accepted (record { records = r ∷ l; lost = s; loss_time = At t })) λ t. all-is GoneAll _ here
+      all-reach GoneAll (later_of r.time_sent j.delay) (λ t. Ok (record { records = r ∷ l; lost = s; loss_time = Some t })) λ t. all-is GoneAll _ here
   by-verdict false true e true ih =
-      all_then GoneAll (lose r s) (λ t. then (detect j l t) λ d. accepted (keep_detected (marked r false (At j.now)) d)) λ t f.
-      all_then GoneAll (detect j l t) (λ d. accepted (keep_detected (marked r false (At j.now)) d)) λ d g.
-      all-is GoneAll (keep_detected (marked r false (At j.now)) d) (gone-first (lose-one j r s e t f) (ih t d g))
+      all_then GoneAll (lose r s) (λ t. then (detect j l t) λ d. Ok (keep_detected (marked r false (Some j.now)) d)) λ t f.
+      all_then GoneAll (detect j l t) (λ d. Ok (keep_detected (marked r false (Some j.now)) d)) λ d g.
+      all-is GoneAll (keep_detected (marked r false (Some j.now)) d) (gone-first (lose-one j r s e t f) (ih t d g))
 
 pub detect-all : (j : Judge) (l : List Sent) (s : Lost) → All (λ d. Gone l d.records s d.lost) (detect j l s)
 unfolding detect
-detect-all j [] s = all-is (λ d. Gone [] d.records s d.lost) (record { records = []; lost = s; loss_time = Unset }) (gone-none [] [] s (less_none []))
+detect-all j [] s = all-is (λ d. Gone [] d.records s d.lost) (record { records = []; lost = s; loss_time = None }) (gone-none [] [] s (less_none []))
 detect-all j (r ∷ l) s = by-verdict j r l s (ltb j.largest r.number) (standing r) refl (is_lost j r) (λ t. detect-all j l t)

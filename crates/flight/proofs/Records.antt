@@ -9,10 +9,9 @@ use Rattle.arith.specs.declared.time.Span.{Span}
 use Rattle.model.specs.Connection.{outstanding}
 use Rattle.model.specs.Sent.{standing, marked, may_leave_by, may_leave, drained}
 use Rattle.model.specs.declared.Sent.{Sent}
-use Rattle.model.specs.declared.Time.{Time}
-use Rattle.model.specs.declared.Time.TheVariants.{Unset, At}
 use Rattle.audit.proofs.Laws.{one_more}
 use Rattle.flight.specs.Flight.{count_out}
+use Rattle.std.specs.Prelude.{Option, Some, None}
 
 pub one-counted : (r : Sent) (l : List Sent) → count_out (r ∷ l) ≡ count_out (r ∷ []) + count_out l
 unfolding count_out
@@ -90,28 +89,28 @@ less-neither r q e f = record { bytes = omega (arith, gone-bytes r e, gone-bytes
 pub acked-fallen : (r : Sent) → r.acked ≡ true → standing r ≡ false
 acked-fallen r e = rw e
 
-pub lost-fallen : (r : Sent) {t : Moment} → r.time_lost ≡ At t → standing r ≡ false
+pub lost-fallen : (r : Sent) {t : Moment} → r.time_lost ≡ Some t → standing r ≡ false
 lost-fallen r e = rw e (never (not r.acked))
 
-pub is-standing : (r : Sent) → r.acked ≡ false → r.time_lost ≡ Unset → standing r ≡ true
+pub is-standing : (r : Sent) → r.acked ≡ false → r.time_lost ≡ None → standing r ≡ true
 is-standing r e f = rw (e, f)
 
-pub marked-acked : (r : Sent) (t : Time) → ((marked r true t).in_flight && standing (marked r true t)) ≡ false
+pub marked-acked : (r : Sent) (t : Option Moment) → ((marked r true t).in_flight && standing (marked r true t)) ≡ false
 unfolding marked
 marked-acked r t = fallen (marked r true t) refl
 
-pub marked-lost : (r : Sent) (t : Moment) → ((marked r false (At t)).in_flight && standing (marked r false (At t))) ≡ false
+pub marked-lost : (r : Sent) (t : Moment) → ((marked r false (Some t)).in_flight && standing (marked r false (Some t))) ≡ false
 unfolding marked
-marked-lost r t = fallen (marked r false (At t)) refl
+marked-lost r t = fallen (marked r false (Some t)) refl
 
 -- ---- draining takes none that is out
 
 leaves-fallen : (r : Sent) (now : Moment) (smoothed : Span) → may_leave now smoothed r ≡ true → standing r ≡ false
 leaves-fallen r now smoothed = go r.time_lost refl
   where
-    go : (t : Time) → r.time_lost ≡ t → may_leave_by t r.acked now smoothed ≡ true → standing r ≡ false
-    go Unset e may = acked-fallen r may
-    go (At t) e may = lost-fallen r e
+    go : (t : Option Moment) → r.time_lost ≡ t → may_leave_by t r.acked now smoothed ≡ true → standing r ≡ false
+    go None e may = acked-fallen r may
+    go (Some t) e may = lost-fallen r e
 
 pub less-drained : (now : Moment) (smoothed : Span) (l : List Sent) → Less l (drained now smoothed l) 0 0
 unfolding drained

@@ -14,16 +14,15 @@ use Rattle.model.specs.Events.{Detection, detect_lost_packets, space_acked, drai
 use Rattle.model.specs.Loss.{loss_delay, detect}
 use Rattle.model.specs.Numbers.{or_zero}
 use Rattle.model.specs.Sent.{drained}
-use Rattle.model.specs.declared.Number.{Number}
 use Rattle.model.specs.declared.Reordering.{Reordering}
 use Rattle.model.specs.declared.Rtt.{Rtt}
 use Rattle.model.specs.declared.Sent.{Sent}
 use Rattle.model.specs.declared.Shared.{Shared}
-use Rattle.model.specs.declared.Time.TheVariants.{Unset}
 use Rattle.model.proofs.Peel.{All, all-is, all_then}
 use Rattle.flight.specs.Flight.{Counted, Agrees}
 use Rattle.flight.proofs.Records.{less-drained}
 use Rattle.flight.proofs.Gathered.{Taken, detect-all}
+use Rattle.std.specs.Prelude.{Option, None}
 
 module _ (n : ℕ) (c : Connection) (a : Agrees c) where
   -- a space has no more out than all
@@ -100,10 +99,10 @@ detects now rtt o before s =
     all_then (Detects before s) (loss_delay rtt o.time_thresh) _ λ delay e.
     all_then (Detects before s)
     (detect (record { now = now; delay = delay; threshold = o.pkt_thresh; largest = or_zero s.epoch.largest_acked_packet }) s.records
-    (record { queue = s.lost_frames_ack; packets = 0; bytes = 0; probe_bytes = 0; in_flight = s.epoch.in_flight_count; last = Unset }))
+    (record { queue = s.lost_frames_ack; packets = 0; bytes = 0; probe_bytes = 0; in_flight = s.epoch.in_flight_count; last = None }))
     _ λ d f.
     let g = detect-all (record { now = now; delay = delay; threshold = o.pkt_thresh; largest = or_zero s.epoch.largest_acked_packet }) s.records
-    (record { queue = s.lost_frames_ack; packets = 0; bytes = 0; probe_bytes = 0; in_flight = s.epoch.in_flight_count; last = Unset }) d f in
+    (record { queue = s.lost_frames_ack; packets = 0; bytes = 0; probe_bytes = 0; in_flight = s.epoch.in_flight_count; last = None }) d f in
     let x = less-drained now rtt.smoothed_rtt d.records in
     all-is (Detects before s) _
     (record {
@@ -113,7 +112,7 @@ detects now rtt o before s =
     })
 
 -- an acknowledgement's first two steps
-pub acked-space : (now : Moment) (smoothed : Span) (s : Space) (l : List Sent) (m t : Met) (largest : Number) → m.acked_bytes ≡ 0 → m.in_flight ≡ s.epoch.in_flight_count →
+pub acked-space : (now : Moment) (smoothed : Span) (s : Space) (l : List Sent) (m t : Met) (largest : Option ℕ) → m.acked_bytes ≡ 0 → m.in_flight ≡ s.epoch.in_flight_count →
     Taken s.records l m t → Shrunk s (space_acked (drained now smoothed l) t largest s) t.acked_bytes
 acked-space now smoothed s l m t largest e f x =
     let y = less-drained now smoothed l in

@@ -1,7 +1,6 @@
 -- Bytes in flight and the spaces' in-flight counts, by the records. 01 'The sender's part', 'Replay and the host'. Definitions only.
-use Rattle.std.specs.Prelude.{ℕ, ◌+◌, ◌≤◌, ◌≡◌, cond, ◌&&◌, List, [], ◌∷◌}
+use Rattle.std.specs.Prelude.{ℕ, ◌+◌, ◌≤◌, ◌≡◌, cond, ◌&&◌, List, [], ◌∷◌, Ok}
 use Rattle.arith.specs.Whole.{limit}
-use Rattle.arith.specs.declared.time.Sum.TheVariants.{Fine}
 use Rattle.model.specs.Connection.{Connection, Space, outstanding}
 use Rattle.model.specs.Run.{Event, run}
 use Rattle.model.specs.Sent.{standing}
@@ -27,5 +26,5 @@ pub record Agrees (c : Connection) : Type 0 where
 
 -- after any calls from a fresh connection, refused ones included: bytes in flight is the audit's total of all records, and each space's count its records' own
 pub record InFlight (c : Connection) (calls : List Event) : Type 0 where
-  pub audit : total_of (all_records (run calls c)) ≡ Fine (run calls c).shared.bytes_in_flight
+  pub audit : total_of (all_records (run calls c)) ≡ Ok (run calls c).shared.bytes_in_flight
   pub agrees : Agrees (run calls c)

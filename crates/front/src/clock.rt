@@ -5,11 +5,9 @@ ghost use Rattle.model.specs.Numbers.{on_clock};
 use arith::time::{LIMIT, Moment};
 
 // Whether refusal 1 spares a moment, after the clock's. 01 The stage numbers
+#[tactic(auto, unfolding(model::specs::Numbers::on_clock))]
 pub fn on_clock(clock: Moment, now: Moment) -> bool
     ensures { result ≡ on_clock clock now }
 {
-    if clock.0 <= now.0 {
-        return now.0 <= LIMIT;
-    }
-    false
+    clock.0 <= now.0 && now.0 <= LIMIT
 }

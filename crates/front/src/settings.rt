@@ -21,35 +21,22 @@ const MAX_INITIAL_RTT: u64 = 10000000000;
 const MAX_MAX_ACK_DELAY: u64 = 16383000000;
 
 // Whether refusal 2 spares a datagram size. 01 The stage numbers
+#[tactic(auto, unfolding(model::specs::Numbers::is_datagram_size))]
 pub fn is_datagram_size(size: u64) -> bool
     ensures { result ≡ is_datagram_size size }
 {
-    if size < MIN_DATAGRAM_SIZE {
-        return false;
-    }
-    size <= MAX_DATAGRAM_SIZE
+    MIN_DATAGRAM_SIZE <= size && size <= MAX_DATAGRAM_SIZE
 }
 
 // Whether refusal 2 spares the settings. 01 The stage numbers
+#[tactic(auto, unfolding(model::specs::Numbers::are_settings))]
 pub fn are_settings(s: Settings) -> bool
     ensures { result ≡ are_settings s }
 {
-    let initial_rtt = s.initial_rtt;
-    let max_ack_delay = s.max_ack_delay;
-    if !is_datagram_size(s.max_datagram_size) {
-        return false;
-    }
-    if s.initial_window_packets < MIN_WINDOW_PACKETS {
-        return false;
-    }
-    if MAX_WINDOW_PACKETS < s.initial_window_packets {
-        return false;
-    }
-    if initial_rtt.0 < MIN_INITIAL_RTT {
-        return false;
-    }
-    if MAX_INITIAL_RTT < initial_rtt.0 {
-        return false;
-    }
-    max_ack_delay.0 <= MAX_MAX_ACK_DELAY
+    is_datagram_size(s.max_datagram_size)
+        && MIN_WINDOW_PACKETS <= s.initial_window_packets
+        && s.initial_window_packets <= MAX_WINDOW_PACKETS
+        && MIN_INITIAL_RTT <= s.initial_rtt.0
+        && s.initial_rtt.0 <= MAX_INITIAL_RTT
+        && s.max_ack_delay.0 <= MAX_MAX_ACK_DELAY
 }

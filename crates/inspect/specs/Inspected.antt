@@ -1,19 +1,17 @@
 -- What inspect prints of a trace, and what a turn of it puts out. 01 'Replay and the host': replay's turns and endings; an event's line says more.
 -- Definitions only.
-use Rattle.std.specs.Prelude.{ℕ, zero, suc, ◌≤◌, ◌<◌, false, List, [], ◌∷◌, ◌++◌, ◌≡◌, length, take}
+use Rattle.std.specs.Prelude.{ℕ, zero, suc, Bool, List, [], ◌∷◌, ◌++◌, ◌≡◌, length}
 use Rattle.model.specs.Connection.{Connection}
 use Rattle.model.specs.Run.{step, state_by}
 use Rattle.model.specs.Trace.{bad_at, end, printed, count_by}
 use Rattle.connection.specs.View.{connection_of, answer_of}
-use Rattle.trace.specs.Held.{firsts}
 use Rattle.trace.specs.Reading.{found_at, kind_at, next_at, held_with, kept_by}
 use Rattle.trace.specs.Says.{event_says}
 use Rattle.trace.specs.declared.Found.{Found}
 use Rattle.trace.specs.declared.Found.TheVariants as found
 use Rattle.field.specs.Inspect.{inspected}
-use Rattle.playback.specs.Printed.{unless_ended, Sound}
+use Rattle.playback.specs.Printed.{unless_ended, GoesOn}
 use Rattle.playback.specs.declared.Replay.{Replay}
-use Rattle.playback.specs.declared.progress.Progress.{Progress}
 
 -- ---- what is printed from an offset on
 
@@ -36,15 +34,12 @@ unfoldable pub inspect_at : List ℕ → ℕ → Connection → List ℕ → ℕ
 inspect_at bytes at c held n = inspect_from (suc (length bytes)) bytes at c held n
 
 -- from where a replay stands on
-unfoldable pub to_come : List ℕ → List ℕ → List ℕ → Replay → List ℕ
-to_come bytes ranges m r = inspect_at bytes r.at (connection_of m r.state) (firsts r.held ranges) r.accepted
+unfoldable pub to_come : List ℕ → Replay → List ℕ
+to_come bytes r = inspect_at bytes r.at (connection_of r.words r.state) r.held r.accepted
 
 -- ---- a turn
 
 -- the bytes put out and those still to come are what was to come, and the replay is further on
-pub record Inspects (bytes ranges ranges' m m' out out' : List ℕ) (r : Replay) (p : Progress) : Type 0 where
-  pub shown : take p.filled out' ++ unless_ended p.ended (to_come bytes ranges' m' p.replay) ≡ to_come bytes ranges m r
-  pub sound : Sound ranges' p.replay
-  pub size : length out' ≡ length out
-  pub further : p.ended ≡ false → r.at < p.replay.at
-  pub within : p.ended ≡ false → p.replay.at ≤ length bytes
+pub record Inspects (bytes out : List ℕ) (r r' : Replay) (ended : Bool) : Type 0 where
+  pub shown : out ++ unless_ended ended (to_come bytes r') ≡ to_come bytes r
+  pub goes_on : GoesOn bytes r r' ended

@@ -3,25 +3,17 @@
 // What `step` puts out, line after line, is proved to be the definition's text; that it is written is the C library's.
 #![tactic(auto)]
 
-ghost use Rattle.std.specs.Prelude.{◌≤◌, OnOk, length, take};
-ghost use Rattle.std.specs.Io.KnownBytes.{Appends};
 ghost use Rattle.playback.specs.Printed.{Sound};
 ghost use Rattle.inspect.specs.Inspected.{Inspects};
 
-use anyhow::Context;
-use connection::fresh::Begun;
-use field::line::{blank, put_inspected};
-use playback::input::{LONGEST, read_all, room};
-use playback::line::first;
-use playback::progress::{Progress, tell};
-use playback::start::{begin, no_ranges, no_words, start_with};
-use playback::{Met, Ranges, Replay, turn};
-use records::memory::Words;
-use std::env::{Env, FillError};
-use std::io::{Read, Write};
-use std::rt::Files;
-use std::{fs, io, str};
-use trace::line::too_long;
+use field::line::put_inspected;
+use field::words::Line;
+use playback::line::tell;
+use playback::{Met, Replay};
+use program::{Printer, run};
+use std::io;
+use std::io::Write;
+use trace::text::Text;
 
 const USAGE: &str = "usage: inspect [PATH]
 Replays a trace from PATH, or from standard input, and prints a line for each event:
@@ -29,112 +21,37 @@ kind, refusal, window, bytes in flight, timer in nanoseconds or -, then name=val
 for what it answered, the estimates, CUBIC, counts and the three spaces
 ";
 
-// One turn, its line put into a buffer that holds any.
-fn step(bytes: &[u8], m: &mut Words, ranges: &mut Ranges, out: &mut [u8], r: Replay) -> Progress
-    requires { Sound ranges.old r × (2048 ≤ length out.old) }
-    ensures { Inspects bytes.now ranges.old ranges.new m.old m.new out.old out.new r result }
+// One turn, its line told; whether it is the last.
+fn step(bytes: &[u8], line: &mut Line, r: &mut Replay) -> bool
+    requires { Sound r.old }
+    ensures { Inspects bytes.now line.new r.old r.new result }
 {
+    line.clear();
     let at = r.at;
-    let turned = turn(bytes, m, ranges, r);
-    let met = turned.met;
+    let met = r.turn(bytes);
     let Met::Event(kind, answered) = met else {
-        return tell(out, 0, at, turned);
+        return tell(line, met, at, r);
     };
-    let replay = turned.replay;
-    let state = replay.state;
-    Progress {
-        ended: false,
-        filled: put_inspected(out, 0, kind, answered, state),
-        replay: replay,
+    put_inspected(line, kind, answered, r.state);
+    false
+}
+
+// Each line is written when it is told.
+struct EachLine;
+
+impl Printer for EachLine {
+    ghost use Rattle.inspect.specs.Inspected.{to_come as text_to_come};
+
+    ghost to_come = { text_to_come };
+
+    fn print<W: Write>(bytes: &[u8], r: &mut Replay, out: &mut W) -> io::Result<bool> {
+        let mut line = Text::new();
+        let ended = step(bytes, &mut line, r);
+        out.write_all(line.as_bytes())?;
+        Ok(ended)
     }
 }
 
-// The first n bytes, written.
-fn put_out<W: Write>(out: &mut W, bytes: &[u8], n: usize) -> io::Result<()>
-    ensures { OnOk result (Appends (W.contents out.old) (W.contents out.new) (take n bytes.now)) }
-{
-    out.write_all(first(bytes, n))
-}
-
-// The lines of a trace that is not too long, each written when it is told.
-fn print_lines<W: Write>(out: &mut W, bytes: &[u8]) -> io::Result<()> {
-    let Begun::Accepted(state) = begin() else {
-        return Ok(());
-    };
-    let mut m = no_words();
-    let mut ranges = no_ranges();
-    let mut line = blank();
-    let mut p = step(bytes, &mut m, &mut ranges, &mut line, start_with(state));
-    put_out(out, &line, p.filled)?;
-    while !p.ended {
-        let replay = p.replay;
-        p = step(bytes, &mut m, &mut ranges, &mut line, replay);
-        put_out(out, &line, p.filled)?;
-    }
-    Ok(())
-}
-
-// A trace over 65,536 bytes prints only `too long`. 01 Replay and the host
-fn print_trace<W: Write>(out: &mut W, bytes: &[u8]) -> io::Result<()> {
-    if bytes.len() <= LONGEST {
-        return print_lines(out, bytes);
-    }
-    let line = too_long();
-    let text = line.bytes;
-    put_out(out, &text, line.length)
-}
-
-// All is read before anything is printed, so that no output of a failed read passes for a whole one.
-fn inspect_from<R: Read, W: Write>(reader: &mut R, name: &str, out: &mut W) -> anyhow::Result<()> {
-    let mut buf = room();
-    let n = read_all(reader, &mut buf).context(name)?;
-    print_trace(out, first(&buf, n)).context("standard output")
-}
-
-fn print_usage<W: Write>(out: &mut W) -> io::Result<()> {
-    out.write_all(USAGE.as_bytes())
-}
-
-fn inspect_path(rt: &(impl Files + Print), path: &str) -> anyhow::Result<()> {
-    let mut out = io::writer(rt);
-    if path == "--help" {
-        return print_usage(&mut out).context("standard output");
-    }
-    let mut file = fs::open(rt, path).context(path)?;
-    inspect_from(&mut file, path, &mut out)
-}
-
-// The argument at i, as text. None is longer than a path may be.
-fn argument<'a>(rt: &impl Env, i: usize, room: &'a mut [u8]) -> io::Result<&'a str> {
-    let Ok(n) = rt.arg(i, room) else {
-        return Err(io::Error::from(io::ErrorKind::InvalidFilename));
-    };
-    match str::from_utf8(&room[..n]) {
-        Ok(path) => Ok(path),
-        Err(_) => Err(io::Error::from(io::ErrorKind::InvalidData)),
-    }
-}
-
-fn is_given(rt: &impl Env, i: usize) -> bool {
-    !matches!(rt.arg(i, &mut [0]), Err(FillError::NotPresent))
-}
-
-fn run(rt: &HostRuntime) -> anyhow::Result<()> {
-    if !is_given(rt, 1) {
-        return inspect_from(&mut rt.reader(), "standard input", &mut io::writer(rt));
-    }
-    if is_given(rt, 2) {
-        return print_usage(&mut rt.stderr()).context("standard error");
-    }
-    let mut room = [0; 4096];
-    let path = argument(rt, 1, &mut room).context("PATH")?;
-    inspect_path(rt, path)
-}
-
-// What fails is told in a line on standard error.
 fn main(rt: HostRuntime) -> anyhow::Result<()> {
-    if let Err(error) = run(&rt) {
-        eprintln!(rt; "{error:#}").context("standard error")?;
-    }
-    Ok(())
+    run::<EachLine>(&rt, USAGE)
 }

@@ -7,23 +7,22 @@ use native.Mathlib.Omega.{arith}
 use lib.ListN.{length}
 use Rattle.arith.specs.declared.time.Moment.{Moment}
 use Rattle.arith.specs.declared.time.Span.{Span}
-use Rattle.model.specs.Numbers.{accepted, refused, capacity}
+use Rattle.model.specs.Numbers.{capacity}
 use Rattle.model.specs.Sent.{may_leave, drained}
 use Rattle.model.specs.Loss.{Lost, detect}
 use Rattle.model.specs.declared.Judge.{Judge}
-use Rattle.model.specs.declared.Refusal.{Refusal}
+use Rattle.arith.specs.declared.refusal.Refusal.{Refusal}
 use Rattle.model.specs.declared.Sent.{Sent}
-use Rattle.model.specs.declared.Time.TheVariants.{Unset}
 use Rattle.records.specs.View.{ring}
 use Rattle.records.proofs.Rings.{ring-end, length-ring, ring-take}
 use Rattle.marks.specs.Marks.{acked_at, settled_at, standing_of, handles_of}
 use Rattle.marks.specs.declared.Stop.{Stop}
-use Rattle.marks.specs.declared.Detected.TheVariants as D
 use Rattle.marks.proofs.SplitLoss.{lost_of, finish_lost, split-loss}
 use Rattle.marks.proofs.Lost.{lost-ring, sought}
 use Rattle.losses.specs.Drain.{drained_to}
 use Rattle.losses.specs.Seek.{seek_from}
 use Rattle.losses.proofs.Turns.{drained-on, drained-stop, drained-none}
+use Rattle.std.specs.Prelude.{Ok, Err, None}
 
 -- ---- where draining ends: what is left from there on is what the definition leaves
 module _ (now : Moment) (smoothed : Span) (f : ℕ → Sent) (k : ℕ) where
@@ -56,7 +55,7 @@ module _ (now : Moment) (smoothed : Span) (f : ℕ → Sent) (k : ℕ) where
   drained-to a le = drained-by (k - a) a refl le
 
 -- ---- a detection that stops: where, and the handles of those lost, which the queue holds
-module _ (j : Judge) (f : ℕ → Sent) (a k queued in_flight : ℕ) (g : Stop) (e : seek_from j f a k queued in_flight ≡ D.Stops g) (le : a ≤ k) where
+module _ (j : Judge) (f : ℕ → Sent) (a k queued in_flight : ℕ) (g : Stop) (e : seek_from j f a k queued in_flight ≡ Ok g) (le : a ≤ k) where
   pub seek-from : a ≤ g.place
   seek-from = (sought j a (ring f a (k - a)) _ g e).from
 
@@ -72,14 +71,14 @@ module _ (j : Judge) (f : ℕ → Sent) (a k queued in_flight : ℕ) (g : Stop) 
   seek-room h = (sought j a (ring f a (k - a)) _ g e).room h
 
 -- ---- model's detection, from the answer
-module _ (m : List ℕ) (n head : ℕ) (fs : List ℕ) (j : Judge) (a k : ℕ) (q : List ℕ) (in_flight : ℕ) where
+module _ (m : List ℕ) (n head : ℕ) (fs : List Bool) (j : Judge) (a k : ℕ) (q : List ℕ) (in_flight : ℕ) where
   abbrev fresh : Lost
-  fresh = record { queue = q; packets = 0; bytes = 0; probe_bytes = 0; in_flight = in_flight; last = Unset }
+  fresh = record { queue = q; packets = 0; bytes = 0; probe_bytes = 0; in_flight = in_flight; last = None }
 
   -- what stood before the stop is lost now
-  pub detect-stops : (g : Stop) → seek_from j (acked_at m n head fs) a k (length q) in_flight ≡ D.Stops g → a ≤ k →
+  pub detect-stops : (g : Stop) → seek_from j (acked_at m n head fs) a k (length q) in_flight ≡ Ok g → a ≤ k →
       detect j (ring (acked_at m n head fs) a (k - a)) fresh
-      ≡ accepted
+      ≡ Ok
       (record {
         records = ring (settled_at m n head fs g.place j.now) a (k - a);
         lost = lost_of g.tally (q ++ handles_of (standing_of (ring (acked_at m n head fs) a (g.place - a))));
@@ -93,7 +92,7 @@ module _ (m : List ℕ) (n head : ℕ) (fs : List ℕ) (j : Judge) (a k : ℕ) (
       split-loss j a (ring (acked_at m n head fs) a (k - a)) fresh
       ∙ rw (e, lost-ring m n head fs g.place j.now a (k - a) lo, ring-take (acked_at m n head fs) a (g.place - a) (k - a) d) refl
 
-  pub detect-refused : (x : Refusal) → seek_from j (acked_at m n head fs) a k (length q) in_flight ≡ D.Refused x →
-      detect j (ring (acked_at m n head fs) a (k - a)) fresh ≡ refused x
+  pub detect-refused : (x : Refusal) → seek_from j (acked_at m n head fs) a k (length q) in_flight ≡ Err x →
+      detect j (ring (acked_at m n head fs) a (k - a)) fresh ≡ Err x
   unfolding finish_lost
   detect-refused x e = split-loss j a (ring (acked_at m n head fs) a (k - a)) fresh ∙ rw e refl

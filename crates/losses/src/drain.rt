@@ -5,22 +5,17 @@ ghost use Rattle.model.specs.Sent.{may_leave};
 ghost use Rattle.marks.specs.Marks.{mark_acked, settled_at};
 ghost use Rattle.losses.specs.Drain.{leaves_by, drained_to};
 
-use crate::at_most;
 use arith::time::{Moment, Span, passed};
-use model::Time;
-use records::memory::{CAPACITY, Words, held, mark_at, time_lost};
+use marks::acked_mark;
+use records::memory::{CAPACITY, Word, Words, held, time_lost, word_at};
 
 // The mark at place i after step 1.
-fn mark_acked(m: &Words, n: u64, head: usize, flags: &[u8; 256], i: usize) -> u64
-    requires { (head ≤ capacity) × (i < capacity) }
+#[tactic(auto, using(crate::proofs::Turns::mark_round), unfolding(marks::specs::Marks::mark_acked))]
+fn mark_acked(m: &Words, n: u64, head: usize, flags: &[bool; 256], i: usize) -> u64
+    requires { i < capacity }
     ensures { result ≡ mark_acked m.now n head flags.now i }
 {
-    let mark = mark_at(m, n, head + i);
-    if flags[i] == 1 {
-        mark / 2 * 2 + 1
-    } else {
-        mark
-    }
+    acked_mark(flags[i], word_at(m, n, head % CAPACITY + i, Word::Mark))
 }
 
 // Whether a record with this mark may leave; one that stands is lost now where `lost` says so.
@@ -29,41 +24,40 @@ fn leaves(mark: u64, lost: bool, time: Moment, smoothed: Span) -> bool
     ensures { result ≡ leaves_by mark lost time smoothed }
 {
     if mark == 0 {
-        if lost {
-            return passed(time, smoothed, time);
-        }
-        return false;
+        return lost && passed(time, smoothed, time);
     }
     match time_lost(mark) {
-        Time::Unset => mark % 2 == 1,
-        Time::At(t) => passed(t, smoothed, time),
+        None => mark % 2 == 1,
+        Some(t) => passed(t, smoothed, time),
     }
 }
 
 // Whether the record at place i may leave, once step 1 and a detection that stops at place `stop` are done.
+#[tactic(auto, unfolding(marks::specs::Marks::mark_settled, records::specs::View::record_by))]
 fn may_leave(
     m: &Words,
     n: u64,
     head: usize,
-    flags: &[u8; 256],
+    flags: &[bool; 256],
     i: usize,
     stop: usize,
     time: Moment,
     smoothed: Span,
 ) -> bool
-    requires { (head ≤ capacity) × (i < capacity) }
+    requires { i < capacity }
     ensures { result ≡ may_leave time smoothed (settled_at m.now n head flags.now stop time i) }
 {
     leaves(mark_acked(m, n, head, flags, i), i < stop, time, smoothed)
 }
 
 // The place up to which records drain, from place `from` on: the first that may not leave, or the end.
+#[tactic(auto, using(crate::proofs::Turns::drain_on, crate::proofs::Turns::drain_stop, crate::proofs::Turns::drain_end))]
 pub fn drain(
     m: &Words,
     n: u64,
     head: usize,
     len: usize,
-    flags: &[u8; 256],
+    flags: &[bool; 256],
     from: usize,
     stop: usize,
     time: Moment,
@@ -71,14 +65,11 @@ pub fn drain(
 ) -> usize
     ensures { result ≡ drained_to time smoothed (settled_at m.now n head flags.now stop time) (min from (min len capacity)) (min len capacity) }
 {
-    let first = head % CAPACITY;
     let count = held(len);
-    let mut i = at_most(from, count);
-    while i < count {
-        if !may_leave(m, n, first, flags, i, stop, time, smoothed) {
+    for i in from.min(count)..count {
+        if !may_leave(m, n, head, flags, i, stop, time, smoothed) {
             return i;
         }
-        i = i + 1;
     }
-    i
+    count
 }

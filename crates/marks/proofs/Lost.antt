@@ -1,40 +1,35 @@
 -- What a loss detection and a drain come to over the places of a space. For callers. Assumes nothing.
-use mathlib.Core.Path.{◌≡◌, refl, ap, sym}
+use mathlib.Core.Path.{◌≡◌, refl, ap, sym, ◌∙◌}
 use mathlib.Core.Bool.{Bool, true, false, cond}
 use mathlib.Core.List.{List, [], ◌∷◌}
 use mathlib.Core.Logic.{⊎_elim}
 use Prim.Native.Nat.{ℕ, zero, suc, ◌+◌, ◌-◌, ◌*◌, ◌≤◌, ◌<◌}
 use Rattle.records.proofs.Halving.{lt-or-ge}
 use native.Mathlib.Omega.{arith}
-use borrow.Author.Tests.{lt-ltb, le-ltb}
-use lib.Dec.{eqb, ltb, T, ltb→lt}
+use borrow.Author.Tests.{lt-ltb, le-ltb, ltb-true}
+use lib.Dec.{eqb, ltb}
 use lib.ListN.{length, length-append, take}
 use Rattle.arith.specs.Whole.{sum_of}
 use Rattle.arith.specs.Time.{later_of}
+use Rattle.arith.specs.Refusals.{then}
 use Rattle.arith.specs.declared.time.Moment.{Moment}
-use Rattle.arith.specs.declared.time.MomentSum.{MomentSum}
-use Rattle.arith.specs.declared.time.MomentSum.TheVariants.{MomentOf, TooLate}
 use Rattle.arith.specs.declared.time.Span.{Span}
-use Rattle.arith.specs.declared.time.Sum.{Sum}
-use Rattle.arith.specs.declared.time.Sum.TheVariants.{Fine, Over}
 use Rattle.model.specs.Numbers.{capacity}
 use Rattle.model.specs.Sent.{standing, marked, may_leave, drained}
 use Rattle.model.specs.Loss.{is_lost}
 use Rattle.model.specs.declared.Judge.{Judge}
-use Rattle.model.specs.declared.Refusal.TheVariants.{Full}
+use Rattle.arith.specs.declared.refusal.Refusal.TheVariants.{Full}
 use Rattle.model.specs.declared.Sent.{Sent}
-use Rattle.model.specs.declared.Time.TheVariants.{At}
 use Rattle.records.specs.View.{record_by, ring}
 use Rattle.records.proofs.Laws.{record-lost, standing-mark}
 use Rattle.records.proofs.Rings.{ring-ext}
 use Rattle.marks.specs.Marks.{mark_acked, mark_settled, acked_at, settled_at, standing_of, lost_all, handles_of}
-use Rattle.marks.specs.Survey.{lost_tally, probe_weighed, packet_weighed, weigh_kind, loss_weighed, survives, on_weighed, seek_by, seek}
+use Rattle.marks.specs.Survey.{queued_of, weigh_kind, loss_weighed, stop, seek_by, seek}
 use Rattle.marks.specs.declared.LostTally.{LostTally}
-use Rattle.marks.specs.declared.LossWeighed.{LossWeighed}
-use Rattle.marks.specs.declared.LossWeighed.TheVariants as L
 use Rattle.marks.specs.declared.Stop.{Stop}
-use Rattle.marks.specs.declared.Detected.TheVariants as D
 use Rattle.marks.proofs.SplitLoss.{handles-cons}
+use Rattle.std.specs.Prelude.{Result, Ok, Err, Some}
+use Rattle.arith.specs.declared.refusal.Refusal.{Refusal}
 
 -- ---- draining
 
@@ -50,7 +45,7 @@ drained-twice now smoothed (r ∷ l) = go (drained-twice now smoothed l) (may_le
     go ih false e = rw e refl
 
 -- ---- marks after a detection that stops at place `stop`
-module _ (m : List ℕ) (n head : ℕ) (fs : List ℕ) (stop : ℕ) (now : Moment) where
+module _ (m : List ℕ) (n head : ℕ) (fs : List Bool) (stop : ℕ) (now : Moment) where
   -- from there on nothing is lost
   pub settled-past : (i : ℕ) → stop ≤ i → settled_at m n head fs stop now i ≡ acked_at m n head fs i
   unfolding mark_settled
@@ -58,13 +53,13 @@ module _ (m : List ℕ) (n head : ℕ) (fs : List ℕ) (stop : ℕ) (now : Momen
 
   -- before it, what stood is lost now
   pub settled_before : (i : ℕ) → i < stop →
-      settled_at m n head fs stop now i ≡ cond (standing (acked_at m n head fs i)) (marked (acked_at m n head fs i) false (At now)) (acked_at m n head fs i)
+      settled_at m n head fs stop now i ≡ cond (standing (acked_at m n head fs i)) (marked (acked_at m n head fs i) false (Some now)) (acked_at m n head fs i)
   unfolding mark_settled
   settled_before i lt = rw (lt-ltb i stop lt, standing-mark m n (head + i) (mark_acked m n head fs i)) (go (eqb (mark_acked m n head fs i) 0))
     where
       go : (b : Bool) →
           record_by m n (head + i) (cond b (2 * (now.0 + 1)) (mark_acked m n head fs i))
-          ≡ cond b (marked (acked_at m n head fs i) false (At now)) (acked_at m n head fs i)
+          ≡ cond b (marked (acked_at m n head fs i) false (Some now)) (acked_at m n head fs i)
       go true = record-lost m n (head + i) (mark_acked m n head fs i) now.0
       go false = refl
 
@@ -91,57 +86,69 @@ module _ (m : List ℕ) (n head : ℕ) (fs : List ℕ) (stop : ℕ) (now : Momen
       (lt-or-ge a stop)
 
 -- a detection that stops at once loses nothing
-pub settled-none : (m : List ℕ) (n head : ℕ) (fs : List ℕ) (now : Moment) (a c : ℕ) → ring (settled_at m n head fs 0 now) a c ≡ ring (acked_at m n head fs) a c
+pub settled-none : (m : List ℕ) (n head : ℕ) (fs : List Bool) (now : Moment) (a c : ℕ) → ring (settled_at m n head fs 0 now) a c ≡ ring (acked_at m n head fs) a c
 settled-none m n head fs now a c = settled-ring-past m n head fs 0 now a c (omega arith)
+
+-- ---- one handle
+
+clash : {A B : Type 0} {b : B} {why : Refusal} → ◌≡◌ {A = Result B Refusal} (Err why) (Ok b) → A
+clash e = absurd (let z : ◌≡◌ {A = ℕ} 0 1 = cc in let w : ⊥ = omega arith in w)
+
+-- it is queued, unless 0, and the queue holds it
+pub record Queues (r : Sent) (n q : ℕ) : Type 0 where
+  pub handles : q ≡ n + length (handles_of (r ∷ []))
+  pub room : n ≤ capacity → q ≤ capacity
+
+pub queues : (r : Sent) (n q : ℕ) → queued_of r.handle n ≡ Ok q → Queues r n q
+unfolding queued_of handles_of
+queues r n q = go (eqb r.handle 0) (ltb n capacity) refl refl
+  where
+    go : (z room : Bool) → eqb r.handle 0 ≡ z → ltb n capacity ≡ room → ◌≡◌ {A = Result ℕ Refusal} (cond z (Ok n) (cond room (Ok (n + 1)) (Err Full))) (Ok q) → Queues r n q
+    go true room y f e = let a : n ≡ q = cc in record { handles = rw y (omega arith); room = λ h. omega arith }
+    go false true y f e = let a : n + 1 ≡ q = cc in record { handles = rw y (omega arith); room = λ h. omega (arith, ltb-true n capacity f) }
+    go false false y f e = clash e
 
 -- ---- one lost record
 
-clash : {A : Type 0} {t : LostTally} {n : _} → L.Refused n ≡ L.Fits t → A
-clash e = absurd (let z : ◌≡◌ {A = ℕ} 0 1 = cc in let w : ⊥ = omega arith in w)
-
-pub record Weighed (queued : ℕ) (t u : LostTally) : Type 0 where
-  pub handles : u.queued ≡ queued
+pub record Weighed (r : Sent) (t u : LostTally) : Type 0 where
+  -- its handle is queued, unless 0, and the queue holds it
+  pub handles : u.queued ≡ t.queued + length (handles_of (r ∷ []))
+  pub room : t.queued ≤ capacity → u.queued ≤ capacity
   pub packets : u.packets ≤ t.packets + 1
 
-kind-weighed : (r : Sent) (q : ℕ) (t u : LostTally) → weigh_kind r q t ≡ L.Fits u → Weighed q t u
-kind-weighed r q t u = go r.is_pmtud_probe r.in_flight (sum_of t.probe_bytes r.size) (sum_of t.bytes r.size)
-  where
-    is : {p b pb f : ℕ} {last : _} → p ≤ t.packets + 1 → L.Fits (lost_tally q p b pb f last) ≡ L.Fits u → Weighed q t u
-    is {p} le e = let a : q ≡ u.queued = cc in let b : p ≡ u.packets = cc in record { handles = sym a; packets = omega arith }
+record Kind (t u : LostTally) : Type 0 where
+  handles : u.queued ≡ t.queued
+  packets : u.packets ≤ t.packets + 1
 
-    go : (probe flight : Bool) (a b : Sum) →
+kind-weighed : (r : Sent) (t u : LostTally) → weigh_kind r t ≡ Ok u → Kind t u
+kind-weighed r t u = go r.is_pmtud_probe r.in_flight (sum_of t.probe_bytes r.size) (sum_of t.bytes r.size)
+  where
+    is : {v : LostTally} → v.queued ≡ t.queued → v.packets ≤ t.packets + 1 → ◌≡◌ {A = Result LostTally Refusal} (Ok v) (Ok u) → Kind t u
+    is {v} q p e = let z : v ≡ u = cc in rw (← z) (record { handles = q; packets = p })
+
+    go : (probe flight : Bool) (a b : Result ℕ Refusal) →
         cond probe
-        (cond flight (probe_weighed a q t) (L.Fits (lost_tally q t.packets t.bytes t.probe_bytes t.in_flight t.last)))
-        (cond flight (packet_weighed b r q t) (L.Fits (lost_tally q (t.packets + 1) t.bytes t.probe_bytes t.in_flight t.last)))
-        ≡ L.Fits u → Weighed q t u
-    go true true (Fine x) b e = is (omega arith) e
-    go true true Over b e = clash e
-    go true false a b e = is (omega arith) e
-    go false true a (Fine x) e = is (omega arith) e
-    go false true a Over e = clash e
-    go false false a b e = is (omega arith) e
+        (cond flight (then a λ n. Ok (record t { probe_bytes = n; in_flight = t.in_flight - 1 })) (Ok t))
+        (cond flight (then b λ n. Ok (record t { packets = t.packets + 1; bytes = n; in_flight = t.in_flight - 1; last = Some r.time_sent }))
+        (Ok (record t { packets = t.packets + 1 })))
+        ≡ Ok u → Kind t u
+    go true true (Ok x) b e = is refl (omega arith) e
+    go true true (Err why) b e = clash e
+    go true false a b e = is refl (omega arith) e
+    go false true a (Ok x) e = is refl (omega arith) e
+    go false true a (Err why) e = clash e
+    go false false a b e = is refl (omega arith) e
 
--- its handle is queued, unless 0, and the queue holds it
-pub weighed-lost : (r : Sent) (t u : LostTally) → loss_weighed r t ≡ L.Fits u → Weighed (t.queued + length (handles_of (r ∷ []))) t u
-unfolding loss_weighed handles_of
-weighed-lost r t u = go (eqb r.handle 0) (ltb t.queued capacity)
-  where
-    go : (z room : Bool) →
-        cond z (weigh_kind r t.queued t) (cond room (weigh_kind r (t.queued + 1) t) (L.Refused Full)) ≡ L.Fits u →
-        Weighed (t.queued + length (cond z [] (r.handle ∷ []))) t u
-    go true room e = let w = kind-weighed r t.queued t u e in record { handles = omega (arith, w.handles); packets = w.packets }
-    go false true e = kind-weighed r (t.queued + 1) t u e
-    go false false e = clash e
-
-pub weighed-room : (r : Sent) (t u : LostTally) → loss_weighed r t ≡ L.Fits u → t.queued ≤ capacity → u.queued ≤ capacity
+pub weighed-lost : (r : Sent) (t u : LostTally) → loss_weighed r t ≡ Ok u → Weighed r t u
 unfolding loss_weighed
-weighed-room r t u e le = go (eqb r.handle 0) (ltb t.queued capacity) (ltb→lt t.queued capacity) e
+weighed-lost r t u = go (queued_of r.handle t.queued) refl
   where
-    go : (z room : Bool) → (T room → t.queued < capacity) →
-        cond z (weigh_kind r t.queued t) (cond room (weigh_kind r (t.queued + 1) t) (L.Refused Full)) ≡ L.Fits u → u.queued ≤ capacity
-    go true room f e = omega (arith, (kind-weighed r t.queued t u e).handles)
-    go false true f e = omega (arith, (kind-weighed r (t.queued + 1) t u e).handles, f tt)
-    go false false f e = clash e
+    go : (x : Result ℕ Refusal) → queued_of r.handle t.queued ≡ x → then x (λ q. weigh_kind r (record t { queued = q })) ≡ Ok u → Weighed r t u
+    go (Ok q) p e =
+        let k = queues r t.queued q p in
+        let w = kind-weighed r (record t { queued = q }) u e in
+        record { handles = w.handles ∙ k.handles; room = λ h. rw w.handles (k.room h); packets = w.packets }
+    go (Err why) p e = clash e
 
 -- ---- a detection of the records of a list from place i on, from the tally t
 module _ (j : Judge) where
@@ -153,7 +160,7 @@ module _ (j : Judge) where
     pub handles : f.tally.queued ≡ t.queued + length (handles_of (standing_of (take (f.place - i) l)))
     pub room : t.queued ≤ capacity → f.tally.queued ≤ capacity
 
-  module _ (i : ℕ) (r : Sent) (l : List Sent) (t : LostTally) (ih : (u : LostTally) (f : Stop) → seek j (i + 1) l u ≡ D.Stops f → Sought (i + 1) l u f) where
+  module _ (i : ℕ) (r : Sent) (l : List Sent) (t : LostTally) (ih : (u : LostTally) (f : Stop) → seek j (i + 1) l u ≡ Ok f → Sought (i + 1) l u f) where
     -- the scan ends at the record
     ends : (f : Stop) → i ≡ f.place → t ≡ f.tally → Sought i (r ∷ l) t f
     unfolding standing_of handles_of
@@ -163,7 +170,7 @@ module _ (j : Judge) where
         record { from = omega arith; to = omega arith; handles = rw z (omega arith); room = λ h. omega arith }
 
     -- it passes over the record, which does not stand
-    passes : (f : Stop) → standing r ≡ false → seek j (i + 1) l t ≡ D.Stops f → Sought i (r ∷ l) t f
+    passes : (f : Stop) → standing r ≡ false → seek j (i + 1) l t ≡ Ok f → Sought i (r ∷ l) t f
     unfolding standing_of handles_of
     passes f st e =
         let s = ih t f e in
@@ -171,9 +178,9 @@ module _ (j : Judge) where
         record { from = omega (arith, s.from); to = omega (arith, s.to); handles = rw (z, st) s.handles; room = s.room }
 
     -- the record is lost
-    loses : (f : Stop) → standing r ≡ true → (w : LossWeighed) → loss_weighed r t ≡ w → on_weighed w (seek j (i + 1) l) ≡ D.Stops f → Sought i (r ∷ l) t f
+    loses : (f : Stop) → standing r ≡ true → (w : Result LostTally Refusal) → loss_weighed r t ≡ w → then w (seek j (i + 1) l) ≡ Ok f → Sought i (r ∷ l) t f
     unfolding standing_of
-    loses f st (L.Fits u) x e =
+    loses f st (Ok u) x e =
         let s = ih u f e in
         let z : f.place - i ≡ suc (f.place - (i + 1)) = omega (arith, s.from) in
         let w = weighed-lost r t u x in
@@ -182,22 +189,22 @@ module _ (j : Judge) where
           from = omega (arith, s.from);
           to = omega (arith, s.to);
           handles = rw (z, st, handles-cons r (standing_of (take (f.place - (i + 1)) l))) (omega (arith, n, w.handles, s.handles));
-          room = λ h. s.room (weighed-room r t u x h);
+          room = λ h. s.room (w.room h);
         }
-    loses f st (L.Refused n) x e = absurd (let z : ◌≡◌ {A = ℕ} 0 1 = cc in let w : ⊥ = omega arith in w)
+    loses f st (Err n) x e = absurd (let z : ◌≡◌ {A = ℕ} 0 1 = cc in let w : ⊥ = omega arith in w)
 
-    survived : (f : Stop) (x : MomentSum) → survives x i t ≡ D.Stops f → Sought i (r ∷ l) t f
-    survived f (MomentOf m) e = let a : i ≡ f.place = cc in let b : t ≡ f.tally = cc in ends f a b
-    survived f TooLate e = absurd (let z : ◌≡◌ {A = ℕ} 0 1 = cc in let w : ⊥ = omega arith in w)
+    survived : (f : Stop) (x : Result Moment Refusal) → then x (λ m. stop t i (Some m)) ≡ Ok f → Sought i (r ∷ l) t f
+    survived f (Ok m) e = let a : i ≡ f.place = cc in let b : t ≡ f.tally = cc in ends f a b
+    survived f (Err why) e = absurd (let z : ◌≡◌ {A = ℕ} 0 1 = cc in let w : ⊥ = omega arith in w)
 
-    seen : (f : Stop) (a b v : Bool) → standing r ≡ b → seek_by a b v j i r t (seek j (i + 1) l) ≡ D.Stops f → Sought i (r ∷ l) t f
+    seen : (f : Stop) (a b v : Bool) → standing r ≡ b → seek_by a b v j i r t (seek j (i + 1) l) ≡ Ok f → Sought i (r ∷ l) t f
     unfolding seek_by
     seen f true b v st e = let x : i ≡ f.place = cc in let y : t ≡ f.tally = cc in ends f x y
     seen f false false v st e = passes f st e
     seen f false true false st e = survived f (later_of r.time_sent j.delay) e
     seen f false true true st e = loses f st (loss_weighed r t) refl e
 
-  pub sought : (i : ℕ) (l : List Sent) (t : LostTally) (f : Stop) → seek j i l t ≡ D.Stops f → Sought i l t f
+  pub sought : (i : ℕ) (l : List Sent) (t : LostTally) (f : Stop) → seek j i l t ≡ Ok f → Sought i l t f
   unfolding seek standing_of handles_of
   sought i [] t f e =
       let x : i ≡ f.place = cc in

@@ -6,20 +6,18 @@ use Prim.Native.Nat.{ℕ, ◌+◌, ◌-◌}
 use lib.Dec.{eqb, ltb}
 use lib.ListN.{length, length-append}
 use Rattle.arith.specs.Whole.{sum_of}
-use Rattle.arith.specs.declared.time.Sum.{Sum}
-use Rattle.arith.specs.declared.time.Sum.TheVariants.{Fine, Over}
-use Rattle.model.specs.Numbers.{Result, accepted, refused, then, reach, capacity, is_unset}
+use Rattle.arith.specs.Refusals.{then}
+use Rattle.model.specs.Numbers.{capacity, is_unset}
 use Rattle.model.specs.Sent.{marked}
 use Rattle.model.specs.Ack.{Met, Acked, meet_lost, newly_met, meet_by, keep_acked, meet_all}
-use Rattle.model.specs.declared.Refusal.TheVariants.{Full}
+use Rattle.arith.specs.declared.refusal.Refusal.TheVariants.{Full}
 use Rattle.model.specs.declared.Sent.{Sent}
-use Rattle.model.specs.declared.Time.{Time}
-use Rattle.model.specs.declared.Time.TheVariants.{Unset, At}
 use Rattle.marks.specs.Marks.{newly_of, acked_all, handles_of}
-use Rattle.marks.specs.Survey.{weigh_by, weighed, bytes_weighed, sum_weighed, on_fits, survey}
+use Rattle.marks.specs.Survey.{weigh_by, weighed, queued_of, bytes_weighed, newly_weighed, survey}
 use Rattle.marks.specs.declared.Tally.{Tally}
-use Rattle.marks.specs.declared.Surveyed.{Surveyed}
-use Rattle.marks.specs.declared.Surveyed.TheVariants as S
+use Rattle.std.specs.Prelude.{Result, Ok, Err, Option, Some, None}
+use Rattle.arith.specs.declared.time.Moment.{Moment}
+use Rattle.arith.specs.declared.refusal.Refusal.{Refusal}
 
 -- ---- step 1 of an acknowledgement
 
@@ -50,30 +48,30 @@ met_by t q ns =
       spurious_in_flight = t.spurious_in_flight;
     }
 
-unfoldable pub finish : Surveyed → List Sent → List ℕ → List Sent → Result Acked
-finish (S.Fits t) l q ns = accepted (record { records = l; met = met_by t q ns })
-finish (S.Refused n) l q ns = refused n
+unfoldable pub finish : Result Tally Refusal → List Sent → List ℕ → List Sent → Result Acked Refusal
+finish (Ok t) l q ns = Ok (record { records = l; met = met_by t q ns })
+finish (Err n) l q ns = Err n
 
-keep-finish : (r : Sent) (x : Surveyed) (l : List Sent) (q : List ℕ) (ns : List Sent) → then (finish x l q ns) (λ a. accepted (keep_acked r a)) ≡ finish x (r ∷ l) q ns
+keep-finish : (r : Sent) (x : Result Tally Refusal) (l : List Sent) (q : List ℕ) (ns : List Sent) → then (finish x l q ns) (λ a. Ok (keep_acked r a)) ≡ finish x (r ∷ l) q ns
 unfolding finish keep_acked
-keep-finish r (S.Fits t) l q ns = refl
-keep-finish r (S.Refused n) l q ns = refl
+keep-finish r (Ok t) l q ns = refl
+keep-finish r (Err n) l q ns = refl
 
 -- the records after the first one are split already
-module _ (K : Met → Result Acked) (Z : Tally → Surveyed) (l : List Sent) (ns : List Sent)
+module _ (K : Met → Result Acked Refusal) (Z : Tally → Result Tally Refusal) (l : List Sent) (ns : List Sent)
     (ih : (m : Met) (n k : ℕ) (e : Bool) → K m ≡ finish (Z (short_of m n k e)) l (m.queue ++ handles_of ns) (m.newly ++ ns)) where
   abbrev hs : List ℕ
   hs = handles_of ns
 
-  kept : (r : Sent) (m : Met) (n k : ℕ) (e : Bool) → then (K m) (λ a. accepted (keep_acked r a)) ≡ finish (Z (short_of m n k e)) (r ∷ l) (m.queue ++ hs) (m.newly ++ ns)
-  kept r m n k e = ap (λ (x : Result Acked). then x (λ a. accepted (keep_acked r a))) (ih m n k e) ∙ keep-finish r (Z (short_of m n k e)) l (m.queue ++ hs) (m.newly ++ ns)
+  kept : (r : Sent) (m : Met) (n k : ℕ) (e : Bool) → then (K m) (λ a. Ok (keep_acked r a)) ≡ finish (Z (short_of m n k e)) (r ∷ l) (m.queue ++ hs) (m.newly ++ ns)
+  kept r m n k e = ap (λ (x : Result Acked Refusal). then x (λ a. Ok (keep_acked r a))) (ih m n k e) ∙ keep-finish r (Z (short_of m n k e)) l (m.queue ++ hs) (m.newly ++ ns)
 
   module _ (r : Sent) (r' : Sent) (i : ℕ) (m : Met) (n k : ℕ) (e : Bool) where
     abbrev t : Tally
     t = short_of m n k e
 
-    abbrev keeping : Met → Result Acked
-    keeping u = then (K u) (λ a. accepted (keep_acked r' a))
+    abbrev keeping : Met → Result Acked Refusal
+    keeping u = then (K u) (λ a. Ok (keep_acked r' a))
 
     one_more : (q : List ℕ) (bytes in_flight : ℕ) →
         keeping (newly_met r m q bytes in_flight)
@@ -81,12 +79,12 @@ module _ (K : Met → Result Acked) (Z : Tally → Surveyed) (l : List Sent) (ns
     one_more q bytes in_flight =
         rw (← append_assoc m.newly (r ∷ []) ns) (kept r' (newly_met r m q bytes in_flight) (n + 1) i (e || r.ack_eliciting))
 
-    by_bytes : (q : List ℕ) (b : Bool) (s : Sum) →
-        then (cond b (reach s λ x. accepted (newly_met r m q x (m.in_flight - 1))) (accepted (newly_met r m q m.acked_bytes m.in_flight))) keeping
+    by_bytes : (q : List ℕ) (b : Bool) (s : Result ℕ Refusal) →
+        then (cond b (then s λ x. Ok (newly_met r m q x (m.in_flight - 1))) (Ok (newly_met r m q m.acked_bytes m.in_flight))) keeping
         ≡ finish
-        (on_fits
-        (cond b (sum_weighed s i r (length q) t)
-        (S.Fits
+        (then
+        (cond b (then s λ x. Ok (record (newly_weighed i r (length q) t) { acked_bytes = x; in_flight = m.in_flight - 1 }))
+        (Ok
         (record {
           queued = length q;
           newly = n + 1;
@@ -101,22 +99,22 @@ module _ (K : Met → Result Acked) (Z : Tally → Surveyed) (l : List Sent) (ns
         Z)
         (r' ∷ l) (q ++ hs) (m.newly ++ (r ∷ ns))
     unfolding finish
-    by_bytes q true (Fine x) = one_more q x (m.in_flight - 1)
-    by_bytes q true Over = refl
+    by_bytes q true (Ok x) = one_more q x (m.in_flight - 1)
+    by_bytes q true (Err why) = refl
     by_bytes q false s = one_more q m.acked_bytes m.in_flight
 
     by-handle : (z room : Bool) →
         then
         (cond z
-        (cond r.in_flight (reach (sum_of m.acked_bytes r.size) λ x. accepted (newly_met r m m.queue x (m.in_flight - 1)))
-        (accepted (newly_met r m m.queue m.acked_bytes m.in_flight)))
+        (cond r.in_flight (then (sum_of m.acked_bytes r.size) λ x. Ok (newly_met r m m.queue x (m.in_flight - 1)))
+        (Ok (newly_met r m m.queue m.acked_bytes m.in_flight)))
         (cond room
-        (cond r.in_flight (reach (sum_of m.acked_bytes r.size) λ x. accepted (newly_met r m (m.queue ++ (r.handle ∷ [])) x (m.in_flight - 1)))
-        (accepted (newly_met r m (m.queue ++ (r.handle ∷ [])) m.acked_bytes m.in_flight)))
-        (refused Full)))
+        (cond r.in_flight (then (sum_of m.acked_bytes r.size) λ x. Ok (newly_met r m (m.queue ++ (r.handle ∷ [])) x (m.in_flight - 1)))
+        (Ok (newly_met r m (m.queue ++ (r.handle ∷ [])) m.acked_bytes m.in_flight)))
+        (Err Full)))
         keeping
         ≡ finish
-        (on_fits (cond z (bytes_weighed i r (length m.queue) t) (cond room (bytes_weighed i r (length m.queue + 1) t) (S.Refused Full))) Z)
+        (then (then (cond z (Ok (length m.queue)) (cond room (Ok (length m.queue + 1)) (Err Full))) (λ q. bytes_weighed r (newly_weighed i r q t))) Z)
         (r' ∷ l) (m.queue ++ cond z hs (r.handle ∷ hs)) (m.newly ++ (r ∷ ns))
     unfolding finish
     by-handle true room = by_bytes m.queue r.in_flight (sum_of m.acked_bytes r.size)
@@ -126,14 +124,14 @@ module _ (K : Met → Result Acked) (Z : Tally → Surveyed) (l : List Sent) (ns
     by-handle false false = refl
 
     -- a record that a range holds, by whether it is acked, and its lost time
-    by-fate : (largest : ℕ) (a : Bool) (lost : Time) →
+    by-fate : (largest : ℕ) (a : Bool) (lost : Option Moment) →
         then (meet_by a lost largest r m) keeping
-        ≡ finish (on_fits (weigh_by a lost largest i r t) Z) (r' ∷ l) (m.queue ++ handles_of (cond (not a && is_unset lost) (r ∷ ns) ns))
+        ≡ finish (then (weigh_by a lost largest i r t) Z) (r' ∷ l) (m.queue ++ handles_of (cond (not a && is_unset lost) (r ∷ ns) ns))
         (m.newly ++ cond (not a && is_unset lost) (r ∷ ns) ns)
-    unfolding meet_by weigh_by handles_of
+    unfolding meet_by weigh_by queued_of handles_of
     by-fate largest true lost = kept r' m n k e
-    by-fate largest false (At x) = kept r' (meet_lost largest r m) n k e
-    by-fate largest false Unset = by-handle (eqb r.handle 0) (ltb (length m.queue) capacity)
+    by-fate largest false (Some x) = kept r' (meet_lost largest r m) n k e
+    by-fate largest false None = by-handle (eqb r.handle 0) (ltb (length m.queue) capacity)
 
 -- step 1 is its survey, its marks and its handles
 pub split : (largest i : ℕ) (bs : List Bool) (l : List Sent) (m : Met) (n k : ℕ) (e : Bool) →

@@ -1,15 +1,14 @@
 -- The records of a space as an event is about to leave them, told from the words as they are. Definitions only.
--- Places count from the front: place i is slot head + i. `fs` are the flags of the records that the ranges hold, 1 for each.
-use Rattle.std.specs.Prelude.{ℕ, zero, suc, ◌+◌, ◌*◌, ◌/◌, Bool, true, false, cond, ◌&&◌, List, [], ◌∷◌, eqb, ltb, get_or}
+-- Places count from the front: place i is slot head + i. `fs` tells for each place whether the ranges hold its record.
+use Rattle.std.specs.Prelude.{ℕ, zero, suc, ◌+◌, ◌*◌, ◌/◌, Bool, true, false, cond, ◌&&◌, List, [], ◌∷◌, eqb, ltb, get_or, Some}
 use Rattle.arith.specs.declared.time.Moment.{Moment}
 use Rattle.model.specs.Sent.{standing, marked}
 use Rattle.model.specs.declared.Sent.{Sent}
-use Rattle.model.specs.declared.Time.TheVariants.{At}
 use Rattle.records.specs.View.{at, record_by, record_at}
 
 -- whether a range holds the record at place i
-abbrev pub flagged : List ℕ → ℕ → Bool
-flagged fs i = eqb (get_or fs i 0) 1
+abbrev pub flagged : List Bool → ℕ → Bool
+flagged fs i = get_or fs i false
 
 -- the mark at place i
 abbrev pub mark_of : List ℕ → ℕ → ℕ → ℕ → ℕ
@@ -24,10 +23,10 @@ abbrev pub lost_mark : Bool → Moment → ℕ → ℕ
 lost_mark b now mark = cond (b && eqb mark 0) (2 * (now.0 + 1)) mark
 
 -- the mark at place i after step 1, and after a detection that stops at place `stop`
-unfoldable pub mark_acked : List ℕ → ℕ → ℕ → List ℕ → ℕ → ℕ
+unfoldable pub mark_acked : List ℕ → ℕ → ℕ → List Bool → ℕ → ℕ
 mark_acked m n head fs i = acked_mark (flagged fs i) (mark_of m n head i)
 
-unfoldable pub mark_settled : List ℕ → ℕ → ℕ → List ℕ → ℕ → Moment → ℕ → ℕ
+unfoldable pub mark_settled : List ℕ → ℕ → ℕ → List Bool → ℕ → Moment → ℕ → ℕ
 unfolding mark_acked
 mark_settled m n head fs stop now i = lost_mark (ltb i stop) now (mark_acked m n head fs i)
 
@@ -35,10 +34,10 @@ mark_settled m n head fs stop now i = lost_mark (ltb i stop) now (mark_acked m n
 abbrev pub held_at : List ℕ → ℕ → ℕ → ℕ → Sent
 held_at m n head i = record_at m n (head + i)
 
-abbrev pub acked_at : List ℕ → ℕ → ℕ → List ℕ → ℕ → Sent
+abbrev pub acked_at : List ℕ → ℕ → ℕ → List Bool → ℕ → Sent
 acked_at m n head fs i = record_by m n (head + i) (mark_acked m n head fs i)
 
-abbrev pub settled_at : List ℕ → ℕ → ℕ → List ℕ → ℕ → Moment → ℕ → Sent
+abbrev pub settled_at : List ℕ → ℕ → ℕ → List Bool → ℕ → Moment → ℕ → Sent
 settled_at m n head fs stop now i = record_by m n (head + i) (mark_settled m n head fs stop now i)
 
 -- ---- of records and their flags: who is newly acked
@@ -62,7 +61,7 @@ acked_all (b ∷ bs) (r ∷ l) = cond b (marked r true r.time_lost) r ∷ acked_
 unfoldable pub lost_all : Moment → ℕ → List Sent → List Sent
 lost_all now zero l = l
 lost_all now (suc k) [] = []
-lost_all now (suc k) (r ∷ l) = cond (standing r) (marked r false (At now)) r ∷ lost_all now k l
+lost_all now (suc k) (r ∷ l) = cond (standing r) (marked r false (Some now)) r ∷ lost_all now k l
 
 -- the handles that a list of records queues: those that are not 0
 unfoldable pub handles_of : List Sent → List ℕ

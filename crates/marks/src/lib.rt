@@ -2,11 +2,35 @@
 // A refusal may arise late in an event, so an event decides first, reading only, and stores when nothing can refuse any more.
 #![tactic(auto)]
 
-// Which records the ranges hold, a number for each place from the front on (1 where one does), and the place after the last such record.
+ghost use Rattle.std.specs.Prelude.{◌≡◌, ◌≤◌, ℕ, false};
+ghost use Rattle.marks.specs.Marks.{acked_mark, flagged};
+ghost use Rattle.marks.specs.Survey.{queued_of};
+
+use arith::refusal::Refusal;
+
+// At most 256 handles per queue. 01 The stage numbers
+const QUEUE: u64 = 256;
+
+// How many handles a queue of `count` holds with one more: a handle 0 is not queued. Refusal 6: the queue would pass 256 handles
+#[tactic(auto, unfolding(crate::specs::Survey::queued_of))]
+pub fn queued(handle: u64, count: u64) -> Result<u64, Refusal>
+    ensures { result ≡ queued_of handle count }
+{
+    if handle == 0 {
+        Ok(count)
+    } else if count < QUEUE {
+        Ok(count + 1)
+    } else {
+        Err(Refusal::Full)
+    }
+}
+
+// Which records the ranges hold, for each place from the front on, and the place after the last such record.
 #[derive(Clone, Copy)]
 pub struct Covered {
-    pub flags: [u8; 256],
+    pub flags: [bool; 256],
     pub last: usize,
+    ghost past: { (i : ℕ) → last ≤ i → flagged flags i ≡ false },
 }
 
 // What step 1 of an acknowledgement comes to, beside the marks.
@@ -22,7 +46,7 @@ pub struct Tally {
     pub acked_bytes: u64,
     pub in_flight: u64,
     pub spurious: u64,
-    pub distance: model::Number,
+    pub distance: Option<u64>,
     pub spurious_in_flight: bool,
 }
 
@@ -36,14 +60,7 @@ pub struct LostTally {
     pub probe_bytes: u64,
     pub in_flight: u64,
     // when the last non-probe lost in flight was sent
-    pub last: model::Time,
-}
-
-// What step 1 comes to, or the refusal that it reaches first.
-#[derive(Clone, Copy)]
-pub enum Surveyed {
-    Fits(Tally),
-    Refused(model::Refusal),
+    pub last: Option<arith::time::Moment>,
 }
 
 // A loss detection that ends: the place where the scan stops, and the space's loss time.
@@ -51,19 +68,12 @@ pub enum Surveyed {
 pub struct Stop {
     pub tally: LostTally,
     pub place: usize,
-    pub loss_time: model::Time,
+    pub loss_time: Option<arith::time::Moment>,
 }
 
-// What a loss detection comes to, or the refusal that it reaches first.
-#[derive(Clone, Copy)]
-pub enum Detected {
-    Stops(Stop),
-    Refused(model::Refusal),
-}
-
-// What one more lost record comes to, or the refusal.
-#[derive(Clone, Copy)]
-pub enum LossWeighed {
-    Fits(LostTally),
-    Refused(model::Refusal),
+// The mark of a record that a range holds, or not. 01 Acknowledgement (000) 1
+pub fn acked_mark(flag: bool, mark: u64) -> u64
+    ensures { result ≡ acked_mark flag mark }
+{
+    if flag { mark / 2 * 2 + 1 } else { mark }
 }

@@ -10,7 +10,8 @@ use Rattle.arith.specs.Whole.{times_of}
 use Rattle.arith.specs.Time.{span}
 use Rattle.arith.specs.declared.time.Moment.{Moment}
 use Rattle.arith.specs.declared.time.Span.{Span}
-use Rattle.model.specs.Numbers.{Result, then, on_clock, is_space}
+use Rattle.arith.specs.Refusals.{then}
+use Rattle.model.specs.Numbers.{on_clock, is_space}
 use Rattle.model.specs.Sent.{drained}
 use Rattle.model.specs.Ranges.{are_ranges, hold_skipped, is_skipped, largest_for}
 use Rattle.model.specs.Ack.{Met, Acked, meet_all, reordered}
@@ -21,19 +22,18 @@ use Rattle.model.specs.Strength.{those, sizes, held, fallen, places, newly_acked
 use Rattle.model.specs.declared.Congestion.{Congestion}
 use Rattle.model.specs.declared.HandshakeStatus.{HandshakeStatus}
 use Rattle.model.specs.declared.Judge.{Judge}
-use Rattle.model.specs.declared.Number.{Number}
-use Rattle.model.specs.declared.Number.TheVariants.{Missing, Is}
 use Rattle.model.specs.declared.OnAckReceivedOutcome.{OnAckReceivedOutcome}
-use Rattle.model.specs.declared.Refusal.TheVariants.{Clock, Domain, Ranges, Skipped}
+use Rattle.arith.specs.declared.refusal.Refusal.TheVariants.{Clock, Domain, Ranges, Skipped}
 use Rattle.model.specs.declared.Reordering.{Reordering}
 use Rattle.model.specs.declared.Rtt.{Rtt}
 use Rattle.model.specs.declared.Sent.{Sent}
 use Rattle.model.specs.declared.Shared.{Shared}
-use Rattle.model.specs.declared.Time.{Time}
 use Rattle.model.proofs.Peel.{All, all-is, all_then, all-must, all-reach}
 use Rattle.model.proofs.Counts.{Gathers, meets}
 use Rattle.model.proofs.Remains.{Remains, remains-acked, remains-drained, remains-fallen, drained-twice, with-here, with-else, ended, all_tested}
 use Rattle.model.proofs.Detecting.{Found, found, detected, judge_by}
+use Rattle.std.specs.Prelude.{Result, Option, Some, None}
+use Rattle.arith.specs.declared.refusal.Refusal.{Refusal}
 
 first : (a b : Bool) → (a && b) ≡ true → a ≡ true
 first true b e = refl
@@ -68,7 +68,7 @@ module _ (now : Moment) (n : ℕ) (words : List ℕ) (c : Connection) (small : n
         acked_bytes = 0;
         in_flight = (space_at n c).epoch.in_flight_count;
         spurious = 0;
-        distance = Missing;
+        distance = None;
         spurious_in_flight = false;
       }
 
@@ -127,11 +127,11 @@ module _ (now : Moment) (n : ℕ) (words : List ℕ) (c : Connection) (small : n
         t = space_acked (remaining now n words c) m (space_at n c).epoch.largest_acked_packet (space_at n c)
 
     module _ (r : Sent) (k : List Sent) (is : newly_acked n words c ≡ r ∷ k) (delay : Span) (status : HandshakeStatus) (limited : Bool) (last : Sent) where
-      abbrev old : Number
+      abbrev old : Option ℕ
       old = (space_at n c).epoch.largest_acked_packet
 
       abbrev met : Space
-      met = space_acked (remaining now n words c) m (Is (stored_largest old last)) (space_at n c)
+      met = space_acked (remaining now n words c) m (Some (stored_largest old last)) (space_at n c)
 
       -- the space drained again
       finished : (rtt : Rtt) (d : Detection) (x : Shared) (e : Connection) → e ≡ with_shared x (with_space n d.space c) →
@@ -141,7 +141,7 @@ module _ (now : Moment) (n : ℕ) (words : List ℕ) (c : Connection) (small : n
           ∙ ap (λ (s : Space). with_space n (drained_again now rtt s) (with_shared x (with_space n d.space c))) (with-here n d.space x c)
           ∙ with-twice n (drained_again now rtt d.space) d.space x c
 
-      some-done : (rtt : Rtt) (d : Detection) → Found now rtt o c.shared.bytes_in_flight met d → (h : Congestion) (t : Time) →
+      some-done : (rtt : Rtt) (d : Detection) → Found now rtt o c.shared.bytes_in_flight met d → (h : Congestion) (t : Option Moment) →
           Acknowledges now n words c (outcome d.packets d.lost_bytes m.acked_bytes m.spurious)
           (with_shared (with_timer t (shared_acked now rtt o (d.bytes - m.acked_bytes) h c.shared)) (with_space n (drained_again now rtt d.space) c))
       some-done rtt d f h t =
@@ -209,12 +209,12 @@ module _ (now : Moment) (n : ℕ) (words : List ℕ) (c : Connection) (small : n
       largest : ℕ
       largest = largest_for (space_at n c).epoch.largest_acked_packet words
 
-      on : Acked → Result (Step OnAckReceivedOutcome)
+      on : Acked → Result (Step OnAckReceivedOutcome) Refusal
       on a =
           then (reordered a.met.distance a.met.spurious c.shared.reordering) λ o.
           acked_by a.met.newly now n delay status limited (drained now c.shared.rtt.smoothed_rtt a.records) a.met o c
 
-pub acknowledges : (now : Moment) (n : ℕ) (words : List ℕ) (delay : ℕ) (status : HandshakeStatus) (limited : Bool) (skipped : Number) (c : Connection) →
+pub acknowledges : (now : Moment) (n : ℕ) (words : List ℕ) (delay : ℕ) (status : HandshakeStatus) (limited : Bool) (skipped : Option ℕ) (c : Connection) →
     All (λ x. Acknowledges now n words c x.answer x.state) (on_ack_received now n words delay status limited skipped c)
 unfolding on_ack_received
 acknowledges now n words delay status limited skipped c =

@@ -10,7 +10,8 @@ use Rattle.arith.specs.Whole.{within, sum_of, times_of}
 use Rattle.arith.specs.Time.{span}
 use Rattle.arith.specs.declared.time.Moment.{Moment}
 use Rattle.arith.specs.declared.time.Span.{Span}
-use Rattle.model.specs.Numbers.{Result, accepted, refused, then, on_clock, is_space, is_datagram_size, capacity}
+use Rattle.arith.specs.Refusals.{then}
+use Rattle.model.specs.Numbers.{on_clock, is_space, is_datagram_size, capacity}
 use Rattle.model.specs.Sent.{drained, newest, rest}
 use Rattle.model.specs.Ranges.{are_ranges, hold_skipped, is_skipped, largest_for}
 use Rattle.model.specs.Ack.{Met, meet_all, reordered_by, reordered}
@@ -21,25 +22,23 @@ use Rattle.model.specs.Events.{Step, is_packet, is_newer, run_after, space_sent,
 use Rattle.model.specs.Run.{Event, sent, acked, timeout, discarded, size_change, take_acked, take_lost, ping, Answer, done, of_ack, of_timeout, handle, answering, step}
 use Rattle.model.specs.Strength.{places, forgiven, lost_by, spurious_by}
 use Rattle.model.specs.declared.HandshakeStatus.{HandshakeStatus}
-use Rattle.model.specs.declared.Number.{Number}
-use Rattle.model.specs.declared.Number.TheVariants.{Missing, Is}
 use Rattle.model.specs.declared.OnAckReceivedOutcome.{OnAckReceivedOutcome}
 use Rattle.model.specs.declared.OnLossDetectionTimeoutOutcome.{OnLossDetectionTimeoutOutcome}
 use Rattle.model.specs.declared.Packet.{Packet}
-use Rattle.model.specs.declared.Refusal.TheVariants.{Clock, Domain, Stale, Ranges, Skipped, Full}
+use Rattle.arith.specs.declared.refusal.Refusal.TheVariants.{Clock, Domain, Stale, Ranges, Skipped, Full}
 use Rattle.model.specs.declared.Reordering.{Reordering}
 use Rattle.model.specs.declared.Rtt.{Rtt}
 use Rattle.model.specs.declared.Sent.{Sent}
 use Rattle.model.specs.declared.Shared.{Shared}
-use Rattle.model.specs.declared.Time.{Time}
-use Rattle.model.specs.declared.Time.TheVariants.{Unset, At}
 use Rattle.model.specs.declared.TimeAndSpace.{TimeAndSpace}
-use Rattle.model.proofs.Peel.{All, all-is, all_then, all-must, all-cond, all-reached, all-reach, no_value}
+use Rattle.model.proofs.Peel.{All, all-is, all_then, all-must, all-cond, all-reach, no_value}
 use Rattle.model.proofs.Counts.{sum_is, meets}
 use Rattle.model.proofs.Events.{with-shared}
 use Rattle.model.proofs.Told.{told, told-append, told-forgive, told-lost, told-acks}
 use Rattle.model.proofs.Remains.{ended}
 use Rattle.model.proofs.Detecting.{Found, found}
+use Rattle.std.specs.Prelude.{Result, Ok, Err, Option, Some, None}
+use Rattle.arith.specs.declared.refusal.Refusal.{Refusal}
 
 -- ---- the stored counts
 module _ (c : Connection) where
@@ -50,9 +49,9 @@ module _ (c : Connection) where
   abbrev Counted : {A : Type 0} → (A → ℕ) → ℕ → Step A → Type 0
   Counted f k x = (told x.moves ≡ f x.answer) × (spurious_of x.state ≡ spurious_of c + k)
 
-  answered : {A : Type 0} (f : A → Answer) (k : ℕ) (r : Result (Step A)) → All (Counted (λ a. lost_by (f a)) k) r → All (Counted lost_by k) (answering f r)
-  answered f k (accepted x) h = all-is (Counted lost_by k) (record { state = x.state; answer = f x.answer; moves = x.moves }) (h x refl)
-  answered f k (refused n) h = λ y e. no_value e
+  answered : {A : Type 0} (f : A → Answer) (k : ℕ) (r : Result (Step A) Refusal) → All (Counted (λ a. lost_by (f a)) k) r → All (Counted lost_by k) (answering f r)
+  answered f k (Ok x) h = all-is (Counted lost_by k) (record { state = x.state; answer = f x.answer; moves = x.moves }) (h x refl)
+  answered f k (Err n) h = λ y e. no_value e
 
   -- an event that tells nothing
   counts-still : {A : Type 0} (f : A → ℕ) (d : Connection) (a : A) → spurious_of d ≡ spurious_of c → f a ≡ 0 → Counted f 0 (record { state = d; answer = a; moves = [] })
@@ -60,13 +59,13 @@ module _ (c : Connection) where
   counts-still f d a e z = (sym z, e ∙ sym (add-zero _))
 
   counts-timed : {A : Type 0} (f : A → ℕ) (now : Moment) (status : HandshakeStatus) (x : Shared) (w : Connection) (a : A) →
-      x.reordering ≡ c.shared.reordering → f a ≡ 0 → All (Counted f 0) (then (timed now status (with_shared x w)) λ d. accepted (record { state = d; answer = a; moves = [] }))
+      x.reordering ≡ c.shared.reordering → f a ≡ 0 → All (Counted f 0) (then (timed now status (with_shared x w)) λ d. Ok (record { state = d; answer = a; moves = [] }))
   counts-timed f now status x w a e z =
-      all_then (Counted f 0) (timed now status (with_shared x w)) (λ d. accepted (record { state = d; answer = a; moves = [] })) λ d y.
+      all_then (Counted f 0) (timed now status (with_shared x w)) (λ d. Ok (record { state = d; answer = a; moves = [] })) λ d y.
       all-is (Counted f 0) _
       (counts-still f d a (ap (λ (k : Connection). spurious_of k) (ended now status x w d y).1 ∙ ap (λ (o : Reordering). o.lost_spurious_count) e) z)
 
-  counts-put : {A : Type 0} (f : A → ℕ) (n : ℕ) (s : Space) (a : A) → f a ≡ 0 → All (Counted f 0) (accepted (record { state = with_space n s c; answer = a; moves = [] }))
+  counts-put : {A : Type 0} (f : A → ℕ) (n : ℕ) (s : Space) (a : A) → f a ≡ 0 → All (Counted f 0) (Ok (record { state = with_space n s c; answer = a; moves = [] }))
   counts-put f n s a z = all-is (Counted f 0) _ (counts-still f (with_space n s c) a (ap (λ (x : Shared). x.reordering.lost_spurious_count) (with-shared n s c)) z)
 
   abbrev none : ℕ → ℕ
@@ -126,11 +125,11 @@ module _ (c : Connection) where
               ∙ more,
         )
       where
-        old : Number
+        old : Option ℕ
         old = (space_at n c).epoch.largest_acked_packet
 
         s : Space
-        s = space_acked l m (Is (stored_largest old last)) (space_at n c)
+        s = space_acked l m (Some (stored_largest old last)) (space_at n c)
 
     counts-by : (ns : List Sent) (delay : Span) (status : HandshakeStatus) (limited : Bool) (l : List Sent) → All Acks (acked_by ns now n delay status limited l m o c)
     unfolding acked_by
@@ -138,19 +137,19 @@ module _ (c : Connection) where
     counts-by (r ∷ []) delay status limited l = counts_some delay status limited l r
     counts-by (r ∷ (q ∷ ns)) delay status limited l = counts-by (q ∷ ns) delay status limited l
 
-  counts-reordered : (distance : Number) (spurious : ℕ) → All (λ o. o.lost_spurious_count ≡ spurious_of c + spurious) (reordered distance spurious c.shared.reordering)
+  counts-reordered : (distance : Option ℕ) (spurious : ℕ) → All (λ o. o.lost_spurious_count ≡ spurious_of c + spurious) (reordered distance spurious c.shared.reordering)
   unfolding reordered reordered_by
   counts-reordered distance spurious =
-      all-reached P (sum_of (spurious_of c) spurious) _ λ total e. all-is P _ (by distance total (sum_is (spurious_of c) spurious total e))
+      all_then P (sum_of (spurious_of c) spurious) _ λ total e. all-is P _ (by distance total (sum_is (spurious_of c) spurious total e))
     where
       P : Reordering → Type 0
       P o = o.lost_spurious_count ≡ spurious_of c + spurious
 
-      by : (d : Number) (total : ℕ) → total ≡ spurious_of c + spurious → P (reordered_by d total c.shared.reordering)
-      by Missing total e = e
-      by (Is d) total e = e
+      by : (d : Option ℕ) (total : ℕ) → total ≡ spurious_of c + spurious → P (reordered_by d total c.shared.reordering)
+      by None total e = e
+      by (Some d) total e = e
 
-  counts-ack : (now : Moment) (n : ℕ) (words : List ℕ) (delay : ℕ) (status : HandshakeStatus) (limited : Bool) (skipped : Number) →
+  counts-ack : (now : Moment) (n : ℕ) (words : List ℕ) (delay : ℕ) (status : HandshakeStatus) (limited : Bool) (skipped : Option ℕ) →
       All (Counted (λ a. a.lost_packets) (length (forgiven n words c))) (on_ack_received now n words delay status limited skipped c)
   unfolding on_ack_received acknowledge
   counts-ack now n words delay status limited skipped =
@@ -179,7 +178,7 @@ module _ (c : Connection) where
             acked_bytes = 0;
             in_flight = (space_at n c).epoch.in_flight_count;
             spurious = 0;
-            distance = Missing;
+            distance = None;
             spurious_in_flight = false;
           }
 
@@ -193,8 +192,8 @@ module _ (c : Connection) where
       earliest : TimeAndSpace
       earliest = loss_time_and_space c.initial.epoch c.handshake.epoch c.application.epoch
 
-      by : (t : Time) (n : ℕ) → All P (timeout_by t n now status c)
-      by (At t) n =
+      by : (t : Option Moment) (n : ℕ) → All P (timeout_by t n now status c)
+      by (Some t) n =
           all_then P (detect_lost_packets now c.shared.rtt c.shared.reordering c.shared.bytes_in_flight (space_at n c)) _ λ d x.
           all_then P (control d.moves c.shared.congestion) _ λ g y.
           all_then P (timed now status (with_shared (shared_timeout now c.shared.pto_count d.bytes g c.shared) (with_space n d.space c))) _ λ e z.
@@ -203,7 +202,7 @@ module _ (c : Connection) where
                 (found now c.shared.rtt c.shared.reordering c.shared.bytes_in_flight (space_at n c) d x),
             ap (λ (k : Connection). spurious_of k) (ended now status (shared_timeout now c.shared.pto_count d.bytes g c.shared) (with_space n d.space c) e z).1 ∙ sym (add-zero _),
           )
-      by Unset n =
+      by None n =
           all_then P (probe_space (facts_of now status c)) _ λ k x.
           all-cond P (leb (c.shared.pto_count + 1) 4294967295) _ _
           (λ e.
@@ -229,7 +228,7 @@ module _ (c : Connection) where
       (all_then (Counted none 0) (control (resize c.shared.max_datagram_size size ∷ []) c.shared.congestion) _ λ h e.
       all-is (Counted none 0) _ (refl, sym (add-zero _)))
 
-  counts-taken : (q : List ℕ) (n : ℕ) (s : Space) → All (Counted none 0) (accepted (taken_lost q n s c))
+  counts-taken : (q : List ℕ) (n : ℕ) (s : Space) → All (Counted none 0) (Ok (taken_lost q n s c))
   unfolding taken_lost
   counts-taken [] n s = counts-put none n (with_queues s.acked_frames [] (rest s.lost_frames_pto) s) (newest s.lost_frames_pto) refl
   counts-taken (h ∷ q) n s = counts-put none n (with_queues s.acked_frames (rest (h ∷ q)) s.lost_frames_pto s) (newest (h ∷ q)) refl

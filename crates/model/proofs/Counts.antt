@@ -10,18 +10,19 @@ use lib.ListN.{length, length-append}
 use Rattle.arith.specs.Whole.{limit, within, sum_of}
 use Rattle.arith.specs.Time.{later_of}
 use Rattle.arith.specs.declared.time.Moment.{Moment}
-use Rattle.arith.specs.declared.time.Sum.TheVariants.{Fine, Over}
-use Rattle.model.specs.Numbers.{Result, accepted, refused, then, reach, capacity, is_unset}
+use Rattle.arith.specs.Refusals.{then}
+use Rattle.model.specs.Numbers.{capacity, is_unset}
 use Rattle.model.specs.Sent.{marked, standing, queued}
 use Rattle.model.specs.Ack.{Met, Acked, meet_lost, newly_met, meet_standing, meet_by, keep_acked, meet_all}
 use Rattle.model.specs.Loss.{Lost, Detected, is_lost, lose_probe, lose_packet, lose, keep_detected, detect_by, detect}
 use Rattle.model.specs.Strength.{those, sizes, handles, held, acknowledged, was_lost, is_packet_lost, is_packet_in_flight, is_probe_in_flight, scanned, named, fallen}
 use Rattle.model.specs.declared.Judge.{Judge}
-use Rattle.model.specs.declared.Refusal.TheVariants.{Full}
+use Rattle.arith.specs.declared.refusal.Refusal.TheVariants.{Full}
 use Rattle.model.specs.declared.Sent.{Sent}
-use Rattle.model.specs.declared.Time.{Time}
-use Rattle.model.specs.declared.Time.TheVariants.{Unset, At}
-use Rattle.model.proofs.Peel.{All, all-is, all_then, all-cond, all-reached, all-moment, no_value}
+use Rattle.model.proofs.Peel.{All, all-is, all_then, all-cond, all-reach, no_value}
+use Rattle.std.specs.Prelude.{Result, Ok, Err, Option, Some, None}
+use Rattle.arith.specs.declared.refusal.Refusal.{Refusal}
+use Rattle.arith.specs.declared.refusal.Refusal.TheVariants.{TooLarge}
 
 -- ---- filters of two lists, one after the other
 
@@ -56,23 +57,23 @@ handles-append (r ∷ k) l = go (eqb r.handle 0) (handles-append k l)
     go false e = ap (λ (x : List ℕ). r.handle ∷ x) e
 
 -- a number that the rules reach is the sum
-pub sum_is : (a b n : ℕ) → sum_of a b ≡ Fine n → n ≡ a + b
+pub sum_is : (a b n : ℕ) → sum_of a b ≡ Ok n → n ≡ a + b
 unfolding sum_of within
 sum_is a b n = go (leb (a + b) limit)
   where
-    go : (t : Bool) → cond t (Fine (a + b)) Over ≡ Fine n → n ≡ a + b
+    go : (t : Bool) → cond t (Ok (a + b)) (Err TooLarge) ≡ Ok n → n ≡ a + b
     go true e = cc
     go false e = absurd (let z : ◌≡◌ {A = ℕ} 0 1 = cc in let w : ⊥ = omega arith in w)
 
 -- a handle that is queued stands last
-pub all-queued : {A : Type 0} (P : A → Type 0) (h : ℕ) (q : List ℕ) (f : List ℕ → Result A) →
+pub all-queued : {A : Type 0} (P : A → Type 0) (h : ℕ) (q : List ℕ) (f : List ℕ → Result A Refusal) →
     ((p : List ℕ) → p ≡ q ++ cond (eqb h 0) [] (h ∷ []) → All P (f p)) → All P (queued h q f)
 all-queued P h q f k = go (eqb h 0) k
   where
     go : (b : Bool) → ((p : List ℕ) → p ≡ q ++ cond b [] (h ∷ []) → All P (f p)) →
-        All P (cond b (f q) (cond (ltb (length q) capacity) (f (q ++ (h ∷ []))) (refused Full)))
+        All P (cond b (f q) (cond (ltb (length q) capacity) (f (q ++ (h ∷ []))) (Err Full)))
     go true k = k q (sym (append-nil q))
-    go false k = all-cond P (ltb (length q) capacity) (f (q ++ (h ∷ []))) (refused Full) (λ e. k (q ++ (h ∷ [])) refl) (λ e a p. no_value p)
+    go false k = all-cond P (ltb (length q) capacity) (f (q ++ (h ∷ []))) (Err Full) (λ e. k (q ++ (h ∷ [])) refl) (λ e a p. no_value p)
 
 -- ---- step 1
 
@@ -104,17 +105,17 @@ module _ (r : Sent) (m : Met) where
   unfolding those handles sizes
   met-skip e = record { newly = rw e (sym (append-nil _)); queue = rw e (sym (append-nil _)); bytes = rw e (sym (add-zero _)); spurious = rw e (sym (add-zero _)) }
 
-  met-lost : (largest : ℕ) (t : Moment) → r.acked ≡ false → r.time_lost ≡ At t → One (meet_lost largest r m)
+  met-lost : (largest : ℕ) (t : Moment) → r.acked ≡ false → r.time_lost ≡ Some t → One (meet_lost largest r m)
   unfolding those handles sizes
   met-lost largest t e f =
       record { newly = rw (e, f) (sym (append-nil _)); queue = rw (e, f) (sym (append-nil _)); bytes = rw (e, f) (sym (add-zero _)); spurious = rw (e, f) refl }
 
-  met-newly : r.acked ≡ false → r.time_lost ≡ Unset → (q : List ℕ) (n in_flight : ℕ) → q ≡ m.queue ++ cond (eqb r.handle 0) [] (r.handle ∷ []) →
+  met-newly : r.acked ≡ false → r.time_lost ≡ None → (q : List ℕ) (n in_flight : ℕ) → q ≡ m.queue ++ cond (eqb r.handle 0) [] (r.handle ∷ []) →
       n ≡ m.acked_bytes + cond r.in_flight (r.size + 0) 0 → One (newly_met r m q n in_flight)
   unfolding those handles sizes
   met-newly e f q n in_flight eq en =
-      let stands : those standing (r ∷ []) ≡ r ∷ [] = those-more standing r [] true (ap₂ (λ (a : Bool) (t : Time). not a && is_unset t) e f) in
-      let kept : those was_lost (r ∷ []) ≡ [] = those-more was_lost r [] false (ap₂ (λ (a : Bool) (t : Time). not a && not (is_unset t)) e f) in
+      let stands : those standing (r ∷ []) ≡ r ∷ [] = those-more standing r [] true (ap₂ (λ (a : Bool) (t : Option Moment). not a && is_unset t) e f) in
+      let kept : those was_lost (r ∷ []) ≡ [] = those-more was_lost r [] false (ap₂ (λ (a : Bool) (t : Option Moment). not a && not (is_unset t)) e f) in
       record {
         newly = ap (λ (x : List Sent). m.newly ++ x) (sym stands);
         queue = eq ∙ ap (λ (x : List Sent). m.queue ++ handles x) (sym stands);
@@ -126,13 +127,13 @@ module _ (r : Sent) (m : Met) where
       by true = refl
       by false = refl
 
-  met-standing : r.acked ≡ false → r.time_lost ≡ Unset → All One (meet_standing r m)
+  met-standing : r.acked ≡ false → r.time_lost ≡ None → All One (meet_standing r m)
   met-standing e f =
       all-queued One r.handle m.queue _ λ q eq.
-      all-cond One r.in_flight (reach (sum_of m.acked_bytes r.size) λ n. accepted (newly_met r m q n (m.in_flight - 1)))
-      (accepted (newly_met r m q m.acked_bytes m.in_flight))
+      all-cond One r.in_flight (then (sum_of m.acked_bytes r.size) λ n. Ok (newly_met r m q n (m.in_flight - 1)))
+      (Ok (newly_met r m q m.acked_bytes m.in_flight))
       (λ t.
-      all-reached One (sum_of m.acked_bytes r.size) (λ n. accepted (newly_met r m q n (m.in_flight - 1))) λ n s.
+      all_then One (sum_of m.acked_bytes r.size) (λ n. Ok (newly_met r m q n (m.in_flight - 1))) λ n s.
       all-is One _ (met-newly e f q n (m.in_flight - 1) eq (sum_is _ _ n s ∙ rw t (omega arith))))
       (λ t. all-is One _ (met-newly e f q m.acked_bytes m.in_flight eq (rw t (omega arith))))
 
@@ -140,10 +141,10 @@ module _ (r : Sent) (m : Met) where
   unfolding meet_by
   met-one largest = go r.acked refl r.time_lost refl
     where
-      go : (a : Bool) → r.acked ≡ a → (t : Time) → r.time_lost ≡ t → All One (meet_by a t largest r m)
+      go : (a : Bool) → r.acked ≡ a → (t : Option Moment) → r.time_lost ≡ t → All One (meet_by a t largest r m)
       go true e t f = all-is One m (met-skip e)
-      go false e (At t) f = all-is One (meet_lost largest r m) (met-lost largest t e f)
-      go false e Unset f = met-standing e f
+      go false e (Some t) f = all-is One (meet_lost largest r m) (met-lost largest t e f)
+      go false e None f = met-standing e f
 
 pub record Meets (bs : List Bool) (l : List Sent) (m : Met) (a : Acked) : Type 0 where
   pub records : a.records ≡ acknowledged bs l
@@ -154,13 +155,13 @@ unfolding meet_all acknowledged held keep_acked
 meets largest [] l m = all-is (Meets [] l m) _ (record { records = refl; gathers = gathers-none m })
 meets largest (b ∷ bs) [] m = all-is (Meets (b ∷ bs) [] m) _ (record { records = refl; gathers = gathers-none m })
 meets largest (false ∷ bs) (r ∷ l) m =
-    all_then (Meets (false ∷ bs) (r ∷ l) m) (meet_all largest bs l m) (λ a. accepted (keep_acked r a)) λ a e.
+    all_then (Meets (false ∷ bs) (r ∷ l) m) (meet_all largest bs l m) (λ a. Ok (keep_acked r a)) λ a e.
     let h = meets largest bs l m a e in
     all-is (Meets (false ∷ bs) (r ∷ l) m) (keep_acked r a) (record { records = ap (λ (x : List Sent). r ∷ x) h.records; gathers = h.gathers })
 meets largest (true ∷ bs) (r ∷ l) m =
     all_then (Meets (true ∷ bs) (r ∷ l) m) (meet_by r.acked r.time_lost largest r m)
-    (λ n. then (meet_all largest bs l n) λ a. accepted (keep_acked (marked r true r.time_lost) a)) λ n e.
-    all_then (Meets (true ∷ bs) (r ∷ l) m) (meet_all largest bs l n) (λ a. accepted (keep_acked (marked r true r.time_lost) a)) λ a f.
+    (λ n. then (meet_all largest bs l n) λ a. Ok (keep_acked (marked r true r.time_lost) a)) λ n e.
+    all_then (Meets (true ∷ bs) (r ∷ l) m) (meet_all largest bs l n) (λ a. Ok (keep_acked (marked r true r.time_lost) a)) λ a f.
     let h = meets largest bs l n a f in
     all-is (Meets (true ∷ bs) (r ∷ l) m) (keep_acked (marked r true r.time_lost) a)
     (record {
@@ -215,7 +216,7 @@ module _ (r : Sent) (s : Lost) where
   lost-probe e q eq =
       all-cond Loss r.in_flight _ _
       (λ f.
-      all-reached Loss (sum_of s.probe_bytes r.size) _ λ n w.
+      all_then Loss (sum_of s.probe_bytes r.size) _ λ n w.
       all-is Loss _ (lost_as true true e f _ (sym (add-zero _)) (sym (add-zero _)) (sum_is _ _ n w ∙ omega arith) eq))
       (λ f. all-is Loss _ (lost_as true false e f _ (sym (add-zero _)) (sym (add-zero _)) (sym (add-zero _)) eq))
 
@@ -224,7 +225,7 @@ module _ (r : Sent) (s : Lost) where
   lost-packet e q eq =
       all-cond Loss r.in_flight _ _
       (λ f.
-      all-reached Loss (sum_of s.bytes r.size) _ λ n w.
+      all_then Loss (sum_of s.bytes r.size) _ λ n w.
       all-is Loss _ (lost_as false true e f _ refl (sum_is _ _ n w ∙ omega arith) (sym (add-zero _)) eq))
       (λ f. all-is Loss _ (lost_as false false e f _ refl (sym (add-zero _)) (sym (add-zero _)) eq))
 
@@ -253,7 +254,7 @@ module _ (j : Judge) (r : Sent) (l : List Sent) where
   scan-passes e b f g = ap₂ (λ (x y : Bool). cond (x || y) [] (r ∷ scanned j l)) e (ap (λ (x : Bool). x && not (is_lost j r)) f ∙ g)
 
   abbrev fall : Sent → Sent
-  fall q = cond (standing q && is_lost j q) (marked q false (At j.now)) q
+  fall q = cond (standing q && is_lost j q) (marked q false (Some j.now)) q
 
   ended-fallen : scanned j (r ∷ l) ≡ [] → r ∷ l ≡ fallen j (r ∷ l)
   unfolding fallen
@@ -273,12 +274,12 @@ module _ (j : Judge) (r : Sent) (l : List Sent) where
 
   -- a record that is passed over, and one that is lost
   falls-not : standing r ≡ false → fall r ≡ r
-  falls-not f = ap (λ (x : Bool). cond (x && is_lost j r) (marked r false (At j.now)) r) f
+  falls-not f = ap (λ (x : Bool). cond (x && is_lost j r) (marked r false (Some j.now)) r) f
 
-  falls : standing r ≡ true → is_lost j r ≡ true → fall r ≡ marked r false (At j.now)
-  falls f g = ap₂ (λ (x y : Bool). cond (x && y) (marked r false (At j.now)) r) f g
+  falls : standing r ≡ true → is_lost j r ≡ true → fall r ≡ marked r false (Some j.now)
+  falls f g = ap₂ (λ (x y : Bool). cond (x && y) (marked r false (Some j.now)) r) f g
 
-  finds-ended : (s : Lost) (t : Time) → scanned j (r ∷ l) ≡ [] → Finds j (r ∷ l) s (record { records = r ∷ l; lost = s; loss_time = t })
+  finds-ended : (s : Lost) (t : Option Moment) → scanned j (r ∷ l) ≡ [] → Finds j (r ∷ l) s (record { records = r ∷ l; lost = s; loss_time = t })
   finds-ended s t e = record { records = ended-fallen e; loses = subst (λ (x : List Sent). Loses x s s) (ended_named e) (loses-none s) }
 
   finds-passed : (s : Lost) (d : Detected) → ltb j.largest r.number ≡ false → standing r ≡ false → Finds j l s d → Finds j (r ∷ l) s (keep_detected r d)
@@ -292,7 +293,7 @@ module _ (j : Judge) (r : Sent) (l : List Sent) where
       }
 
   finds-lost : (s t : Lost) (d : Detected) → ltb j.largest r.number ≡ false → standing r ≡ true → is_lost j r ≡ true → Loses (r ∷ []) s t → Finds j l t d →
-      Finds j (r ∷ l) s (keep_detected (marked r false (At j.now)) d)
+      Finds j (r ∷ l) s (keep_detected (marked r false (Some j.now)) d)
   unfolding keep_detected
   finds-lost s t d e f g one h =
       let p : scanned j (r ∷ l) ≡ r ∷ scanned j l = scan-passes e true f (ap not g) in
@@ -302,7 +303,7 @@ module _ (j : Judge) (r : Sent) (l : List Sent) where
         loses = subst (λ (x : List Sent). Loses x s d.lost) n (loses-more (r ∷ []) (named j l) s t d.lost one h.loses);
       }
 
-finds-none : (j : Judge) (s : Lost) → Finds j [] s (record { records = []; lost = s; loss_time = Unset })
+finds-none : (j : Judge) (s : Lost) → Finds j [] s (record { records = []; lost = s; loss_time = None })
 unfolding fallen named scanned those
 finds-none j s = record { records = refl; loses = loses-none s }
 
@@ -313,13 +314,13 @@ finds j (r ∷ l) s = go (finds j l) (ltb j.largest r.number) refl (standing r) 
   where
     go : ((t : Lost) → All (Finds j l t) (detect j l t)) → (a : Bool) → ltb j.largest r.number ≡ a → (b : Bool) → standing r ≡ b → (v : Bool) → is_lost j r ≡ v →
         All (Finds j (r ∷ l) s) (detect_by a b v j r l s (detect j l))
-    go ih true e b f v g = all-is (Finds j (r ∷ l) s) _ (finds-ended j r l s Unset (scan-ends j r l e))
+    go ih true e b f v g = all-is (Finds j (r ∷ l) s) _ (finds-ended j r l s None (scan-ends j r l e))
     go ih false e false f v g =
-        all_then (Finds j (r ∷ l) s) (detect j l s) (λ d. accepted (keep_detected r d)) λ d x.
+        all_then (Finds j (r ∷ l) s) (detect j l s) (λ d. Ok (keep_detected r d)) λ d x.
         all-is (Finds j (r ∷ l) s) (keep_detected r d) (finds-passed j r l s d e f (ih s d x))
     go ih false e true f false g =
-        all-moment (Finds j (r ∷ l) s) (later_of r.time_sent j.delay) _ λ t. all-is (Finds j (r ∷ l) s) _ (finds-ended j r l s (At t) (scan-survives j r l e f g))
+        all-reach (Finds j (r ∷ l) s) (later_of r.time_sent j.delay) _ λ t. all-is (Finds j (r ∷ l) s) _ (finds-ended j r l s (Some t) (scan-survives j r l e f g))
     go ih false e true f true g =
-        all_then (Finds j (r ∷ l) s) (lose r s) (λ t. then (detect j l t) λ d. accepted (keep_detected (marked r false (At j.now)) d)) λ t x.
-        all_then (Finds j (r ∷ l) s) (detect j l t) (λ d. accepted (keep_detected (marked r false (At j.now)) d)) λ d y.
-        all-is (Finds j (r ∷ l) s) (keep_detected (marked r false (At j.now)) d) (finds-lost j r l s t d e f g (lost-one r s t x) (ih t d y))
+        all_then (Finds j (r ∷ l) s) (lose r s) (λ t. then (detect j l t) λ d. Ok (keep_detected (marked r false (Some j.now)) d)) λ t x.
+        all_then (Finds j (r ∷ l) s) (detect j l t) (λ d. Ok (keep_detected (marked r false (Some j.now)) d)) λ d y.
+        all-is (Finds j (r ∷ l) s) (keep_detected (marked r false (Some j.now)) d) (finds-lost j r l s t d e f g (lost-one r s t x) (ih t d y))

@@ -5,7 +5,7 @@ use Prim.Native.Nat.{ℕ, ◌-◌}
 use native.Mathlib.Nat.{zero-add}
 use Rattle.arith.specs.declared.time.Moment.{Moment}
 use Rattle.arith.specs.declared.time.Span.{Span}
-use Rattle.model.specs.Numbers.{accepted, or_zero}
+use Rattle.model.specs.Numbers.{or_zero}
 use Rattle.model.specs.Sent.{drained}
 use Rattle.model.specs.Loss.{Lost, Detected, loss_delay, detect}
 use Rattle.model.specs.Control.{lose_by, count}
@@ -17,10 +17,10 @@ use Rattle.model.specs.declared.Reordering.{Reordering}
 use Rattle.model.specs.declared.Rtt.{Rtt}
 use Rattle.model.specs.declared.Sent.{Sent}
 use Rattle.model.specs.declared.Shared.{Shared}
-use Rattle.model.specs.declared.Time.TheVariants.{Unset}
 use Rattle.model.proofs.Peel.{All, all-is, all_then}
 use Rattle.model.proofs.Counts.{Finds, finds}
 use Rattle.model.proofs.Remains.{with-here}
+use Rattle.std.specs.Prelude.{Ok, None}
 
 -- ---- a loss detection
 module _ (now : Moment) (rtt : Rtt) (o : Reordering) (bytes : ℕ) (s : Space) where
@@ -28,7 +28,7 @@ module _ (now : Moment) (rtt : Rtt) (o : Reordering) (bytes : ℕ) (s : Space) w
   judge_by delay = record { now = now; delay = delay; threshold = o.pkt_thresh; largest = or_zero s.epoch.largest_acked_packet }
 
   abbrev pub start : Lost
-  start = record { queue = s.lost_frames_ack; packets = 0; bytes = 0; probe_bytes = 0; in_flight = s.epoch.in_flight_count; last = Unset }
+  start = record { queue = s.lost_frames_ack; packets = 0; bytes = 0; probe_bytes = 0; in_flight = s.epoch.in_flight_count; last = None }
 
   abbrev pub detection_of : Detected → Detection
   detection_of d =
@@ -48,7 +48,7 @@ module _ (now : Moment) (rtt : Rtt) (o : Reordering) (bytes : ℕ) (s : Space) w
 
   pub record Found (x : Detection) : Type 0 where
     pub delay : Span
-    pub rule : loss_delay rtt o.time_thresh ≡ accepted delay
+    pub rule : loss_delay rtt o.time_thresh ≡ Ok delay
     pub seen : Detected
     pub finds : Finds (judge_by delay) s.records start seen
     pub is : x ≡ detection_of seen

@@ -9,7 +9,8 @@ use Rattle.arith.specs.Whole.{within, sum_of, times_of}
 use Rattle.arith.specs.Time.{span}
 use Rattle.arith.specs.declared.time.Moment.{Moment}
 use Rattle.arith.specs.declared.time.Span.{Span}
-use Rattle.model.specs.Numbers.{Result, accepted, refused, then, on_clock, is_space, is_datagram_size, capacity}
+use Rattle.arith.specs.Refusals.{then}
+use Rattle.model.specs.Numbers.{on_clock, is_space, is_datagram_size, capacity}
 use Rattle.model.specs.Control.{Move, resize, moved, control, forgive_by, ack_each}
 use Rattle.model.specs.Connection.{outstanding, Space, Connection, space_at, with_space, with_shared, with_timer, facts_of, timed}
 use Rattle.model.specs.Timer.{timer_of}
@@ -21,27 +22,25 @@ use Rattle.model.specs.Events.{Step, run_after, is_packet, is_newer, sent_in_fli
 use Rattle.model.specs.Run.{Event, sent, acked, timeout, discarded, size_change, take_acked, take_lost, ping, Answer, done, of_ack, of_timeout, handle, answering, step}
 use Rattle.model.specs.declared.Congestion.{Congestion}
 use Rattle.model.specs.declared.HandshakeStatus.{HandshakeStatus}
-use Rattle.model.specs.declared.Number.{Number}
-use Rattle.model.specs.declared.Number.TheVariants.{Missing, Is}
 use Rattle.model.specs.declared.Packet.{Packet}
-use Rattle.model.specs.declared.Refusal.TheVariants.{Clock, Domain, Stale, Ranges, Skipped, Full}
+use Rattle.arith.specs.declared.refusal.Refusal.TheVariants.{Clock, Domain, Stale, Ranges, Skipped, Full}
 use Rattle.model.specs.declared.Reordering.{Reordering}
 use Rattle.model.specs.declared.Sent.{Sent}
 use Rattle.model.specs.declared.Shared.{Shared}
-use Rattle.model.specs.declared.Time.{Time}
-use Rattle.model.specs.declared.Time.TheVariants.{Unset, At}
 use Rattle.model.specs.declared.TimeAndSpace.{TimeAndSpace}
 use Rattle.model.proofs.Peel.{All, all-is, all_then, all-cond, all-reach, all-must, no_value}
+use Rattle.std.specs.Prelude.{Result, Ok, Err, Option, Some, None}
+use Rattle.arith.specs.declared.refusal.Refusal.{Refusal}
 
 pub control-append : (ms ns : List Move) (g : Congestion) → control (ms ++ ns) g ≡ then (control ms g) (λ h. control ns h)
 unfolding control
 control-append [] ns g = refl
 control-append (m ∷ ms) ns g = go (λ h. control-append ms ns h) (moved m g)
   where
-    go : ((h : Congestion) → control (ms ++ ns) h ≡ then (control ms h) (λ k. control ns k)) → (x : Result Congestion) →
+    go : ((h : Congestion) → control (ms ++ ns) h ≡ then (control ms h) (λ k. control ns k)) → (x : Result Congestion Refusal) →
         then x (λ h. control (ms ++ ns) h) ≡ then (then x (λ h. control ms h)) (λ h. control ns h)
-    go ih (accepted h) = ih h
-    go ih (refused n) = refl
+    go ih (Ok h) = ih h
+    go ih (Err n) = refl
 
 -- putting a space back leaves what is shared
 pub with-shared : (n : ℕ) (s : Space) (c : Connection) → (with_space n s c).shared ≡ c.shared
@@ -60,19 +59,19 @@ with-shared n s c = go (eqb n 0) (eqb n 1)
 -- the timer leaves the controller
 pub timed-keeps : (now : Moment) (status : HandshakeStatus) (c : Connection) → All (λ d. d.shared.congestion ≡ c.shared.congestion) (timed now status c)
 unfolding timed
-timed-keeps now status c = all_then (λ d. d.shared.congestion ≡ c.shared.congestion) (timer_of (facts_of now status c)) (λ t. accepted (with_shared (with_timer t c.shared) c)) λ t e. all-is (λ d. d.shared.congestion ≡ c.shared.congestion) _ refl
+timed-keeps now status c = all_then (λ d. d.shared.congestion ≡ c.shared.congestion) (timer_of (facts_of now status c)) (λ t. Ok (with_shared (with_timer t c.shared) c)) λ t e. all-is (λ d. d.shared.congestion ≡ c.shared.congestion) _ refl
 
 -- what an event's step says of the controller
 abbrev Controls : {A : Type 0} → Connection → Step A → Type 0
-Controls c x = control x.moves c.shared.congestion ≡ accepted x.state.shared.congestion
+Controls c x = control x.moves c.shared.congestion ≡ Ok x.state.shared.congestion
 
-abbrev Sound : {A : Type 0} → Connection → Result (Step A) → Type 0
+abbrev Sound : {A : Type 0} → Connection → Result (Step A) Refusal → Type 0
 Sound c r = All (Controls c) r
 
 -- naming an answer otherwise changes nothing
-through : {A : Type 0} (c : Connection) (f : A → Answer) (r : Result (Step A)) → Sound c r → Sound c (answering f r)
-through c f (accepted x) h = λ y e. let z : ◌≡◌ {A = Step Answer} (record { state = x.state; answer = f x.answer; moves = x.moves }) y = cc in rw (← z) (h x refl)
-through c f (refused n) h = λ y e. no_value e
+through : {A : Type 0} (c : Connection) (f : A → Answer) (r : Result (Step A) Refusal) → Sound c r → Sound c (answering f r)
+through c f (Ok x) h = λ y e. let z : ◌≡◌ {A = Step Answer} (record { state = x.state; answer = f x.answer; moves = x.moves }) y = cc in rw (← z) (h x refl)
+through c f (Err n) h = λ y e. no_value e
 
 module _ (c : Connection) where
   abbrev g : Congestion
@@ -80,20 +79,20 @@ module _ (c : Connection) where
 
   -- an event without moves that ends in the timer, from a connection with the same controller
   timed-sound : {A : Type 0} (now : Moment) (status : HandshakeStatus) (d : Connection) (a : A) → d.shared.congestion ≡ g →
-      Sound c (then (timed now status d) λ e. accepted (record { state = e; answer = a; moves = [] }))
+      Sound c (then (timed now status d) λ e. Ok (record { state = e; answer = a; moves = [] }))
   unfolding control
   timed-sound now status d a p =
-      all_then (Controls c) (timed now status d) (λ e. accepted (record { state = e; answer = a; moves = [] })) λ e q.
-      all-is (Controls c) (record { state = e; answer = a; moves = [] }) (ap accepted (sym (timed-keeps now status d e q ∙ p)))
+      all_then (Controls c) (timed now status d) (λ e. Ok (record { state = e; answer = a; moves = [] })) λ e q.
+      all-is (Controls c) (record { state = e; answer = a; moves = [] }) (ap Ok (sym (timed-keeps now status d e q ∙ p)))
 
   -- an event whose moves were made, and that ends in the timer
-  moves-timed : {A : Type 0} (ms : List Move) (h : Congestion) → control ms g ≡ accepted h →
+  moves-timed : {A : Type 0} (ms : List Move) (h : Congestion) → control ms g ≡ Ok h →
       (now : Moment) (status : HandshakeStatus) (d : Connection) (a : A) (f : Connection → Connection) → ((e : Connection) → (f e).shared ≡ e.shared) → d.shared.congestion ≡ h →
-      Sound c (then (timed now status d) λ e. accepted (record { state = f e; answer = a; moves = ms }))
+      Sound c (then (timed now status d) λ e. Ok (record { state = f e; answer = a; moves = ms }))
   moves-timed ms h made now status d a f same p =
-      all_then (Controls c) (timed now status d) (λ e. accepted (record { state = f e; answer = a; moves = ms })) λ e q.
+      all_then (Controls c) (timed now status d) (λ e. Ok (record { state = f e; answer = a; moves = ms })) λ e q.
       all-is (Controls c) (record { state = f e; answer = a; moves = ms })
-      (made ∙ ap accepted (sym (ap (λ (x : Shared). x.congestion) (same e) ∙ timed-keeps now status d e q ∙ p)))
+      (made ∙ ap Ok (sym (ap (λ (x : Shared). x.congestion) (same e) ∙ timed-keeps now status d e q ∙ p)))
 
   sent-sound : (now : Moment) (n : ℕ) (p : Packet) (status : HandshakeStatus) → Sound c (on_packet_sent now n p status c)
   unfolding on_packet_sent sent_in_flight sent_aside control
@@ -127,14 +126,14 @@ module _ (c : Connection) where
   some-sound now n delay status limited l m last o =
       all_then (Controls c) (sampled now delay status old last m.newly c.shared.rtt) _ λ rtt x.
       all_then (Controls c)
-      (detect_lost_packets now rtt o c.shared.bytes_in_flight (space_acked l m (Is (stored_largest old last)) (space_at n c))) _ λ d y.
+      (detect_lost_packets now rtt o c.shared.bytes_in_flight (space_acked l m (Some (stored_largest old last)) (space_at n c))) _ λ d y.
       all_then (Controls c) (control (forgive_by m.spurious_in_flight ++ (d.moves ++ ack_each now limited rtt.min_rtt m.newly)) g) _ λ h z.
       moves-timed (forgive_by m.spurious_in_flight ++ (d.moves ++ ack_each now limited rtt.min_rtt m.newly)) h z now status
       (with_shared (shared_acked now rtt o (d.bytes - m.acked_bytes) h c.shared) (with_space n d.space c))
       (outcome d.packets d.lost_bytes m.acked_bytes m.spurious) (λ e. with_space n (drained_again now rtt (space_at n e)) e)
       (λ e. with-shared n (drained_again now rtt (space_at n e)) e) refl
     where
-      old : Number
+      old : Option ℕ
       old = (space_at n c).epoch.largest_acked_packet
 
   by-sound : (ns : List Sent) (now : Moment) (n : ℕ) (delay : Span) (status : HandshakeStatus) (limited : Bool) (l : List Sent) (m : Met) (o : Reordering) →
@@ -144,7 +143,7 @@ module _ (c : Connection) where
   by-sound (r ∷ []) now n delay status limited l m o = some-sound now n delay status limited l m r o
   by-sound (r ∷ (q ∷ ns)) now n delay status limited l m o = by-sound (q ∷ ns) now n delay status limited l m o
 
-  ack-sound : (now : Moment) (n : ℕ) (words : List ℕ) (delay : ℕ) (status : HandshakeStatus) (limited : Bool) (skipped : Number) →
+  ack-sound : (now : Moment) (n : ℕ) (words : List ℕ) (delay : ℕ) (status : HandshakeStatus) (limited : Bool) (skipped : Option ℕ) →
       Sound c (on_ack_received now n words delay status limited skipped c)
   unfolding on_ack_received acknowledge
   ack-sound now n words delay status limited skipped =
@@ -161,7 +160,7 @@ module _ (c : Connection) where
         acked_bytes = 0;
         in_flight = (space_at n c).epoch.in_flight_count;
         spurious = 0;
-        distance = Missing;
+        distance = None;
         spurious_in_flight = false;
       }))
       _ λ a x.
@@ -176,14 +175,14 @@ module _ (c : Connection) where
       earliest : TimeAndSpace
       earliest = loss_time_and_space c.initial.epoch c.handshake.epoch c.application.epoch
 
-      by : (t : Time) → Sound c (timeout_by t earliest.space now status c)
-      by (At t) =
+      by : (t : Option Moment) → Sound c (timeout_by t earliest.space now status c)
+      by (Some t) =
           all_then (Controls c) (detect_lost_packets now c.shared.rtt c.shared.reordering c.shared.bytes_in_flight (space_at earliest.space c)) _ λ d y.
           all_then (Controls c) (control d.moves g) _ λ h z.
           moves-timed d.moves h z now status
           (with_shared (shared_timeout now c.shared.pto_count d.bytes h c.shared) (with_space earliest.space d.space c))
           (timeout_outcome d.packets d.lost_bytes) (λ e. e) (λ e. refl) refl
-      by Unset =
+      by None =
           all_then (Controls c) (probe_space (facts_of now status c)) _ λ n x.
           all-cond (Controls c) (leb (c.shared.pto_count + 1) 4294967295) _ _
           (λ e.
@@ -205,12 +204,12 @@ module _ (c : Connection) where
       (all_then (Controls c) (control (resize c.shared.max_datagram_size size ∷ []) g) _ λ h e. all-is (Controls c) _ e)
 
   -- events that leave the controller: takes and pings
-  still-sound : {A : Type 0} (n : ℕ) (s : Space) (a : A) → Sound c (accepted (record { state = with_space n s c; answer = a; moves = [] }))
+  still-sound : {A : Type 0} (n : ℕ) (s : Space) (a : A) → Sound c (Ok (record { state = with_space n s c; answer = a; moves = [] }))
   unfolding control
   still-sound n s a =
-      all-is (Controls c) (record { state = with_space n s c; answer = a; moves = [] }) (ap (λ (x : Shared). accepted x.congestion) (sym (with-shared n s c)))
+      all-is (Controls c) (record { state = with_space n s c; answer = a; moves = [] }) (ap (λ (x : Shared). Ok x.congestion) (sym (with-shared n s c)))
 
-  taken-sound : (l : List ℕ) (n : ℕ) (s : Space) → Sound c (accepted (taken_lost l n s c))
+  taken-sound : (l : List ℕ) (n : ℕ) (s : Space) → Sound c (Ok (taken_lost l n s c))
   unfolding taken_lost
   taken-sound [] n s = still-sound n _ _
   taken-sound (h ∷ q) n s = still-sound n _ _

@@ -7,21 +7,21 @@ use lib.Dec.{T, leb, ltb, eqb, eqb→eq}
 use borrow.Author.Tests.{ltb-true}
 use lib.Ieee.{Float, lt}
 use Rattle.arith.specs.Whole.{limit, within, sum_of, times_of}
-use Rattle.arith.specs.declared.time.Sum.{Sum}
-use Rattle.arith.specs.declared.time.Sum.TheVariants.{Fine, Over}
 use Rattle.arith.specs.Time.{since_of, span_sum_of}
 use Rattle.arith.specs.Round.{float_of, truncated_of, seconds_of}
 use Rattle.arith.specs.declared.time.Moment.{Moment}
 use Rattle.arith.specs.declared.time.Span.{Span}
-use Rattle.model.specs.Numbers.{Result, accepted, then, reach, reach_window, is_unset}
+use Rattle.arith.specs.Refusals.{then}
+use Rattle.model.specs.Numbers.{reach_window, is_unset}
 use Rattle.model.specs.Cubic.{alpha_aimd, times_beta, w_max_next, k_next, curve, in_recovery, checkpoint, rolls_back, rolled_back, rollback, reduce, congestion_event, count_lost, grown, by_datagram, slow_start, start_of, begun, target_of, estimated, aimed_at, avoidance, few_lost, grow, acked_outside, packet_acked, resized}
 use Rattle.model.specs.Control.{Move, forgive, lose, count, ack, resize, moved}
 use Rattle.model.specs.History.{opens, few, asks, succeeds, keeps_size}
 use Rattle.model.specs.declared.Congestion.{Congestion}
 use Rattle.model.specs.declared.Cubic.{Cubic}
-use Rattle.model.specs.declared.Time.{Time}
-use Rattle.model.specs.declared.Time.TheVariants.{At}
-use Rattle.model.proofs.Peel.{All, all-is, all_then, all-cond, all-reached, all-reach, all-span, all-window, no_value}
+use Rattle.model.proofs.Peel.{All, all-is, all_then, all-cond, all-reach, all-window, no_value}
+use Rattle.std.specs.Prelude.{Result, Ok, Err, Option, Some}
+use Rattle.arith.specs.declared.refusal.Refusal.{Refusal}
+use Rattle.arith.specs.declared.refusal.Refusal.TheVariants.{TooLarge}
 
 -- growth keeps the checkpoint and the threshold, lowers no window and lets none pass 2^30
 pub record Grows (g h : Congestion) : Type 0 where
@@ -35,17 +35,17 @@ grows_same g = record { prior = refl; thresh = refl; window = omega arith; bound
 
 module _ (g : Congestion) where
   -- whole datagrams only move the window on
-  grows-datagram : (size waiting : ℕ) (f : ℕ → ℕ → Result Congestion) →
+  grows-datagram : (size waiting : ℕ) (f : ℕ → ℕ → Result Congestion Refusal) →
       ((w left : ℕ) → g.congestion_window ≤ w → (g.congestion_window ≤ 2 ^ 30 → w ≤ 2 ^ 30) → All (Grows g) (f w left)) → All (Grows g) (by_datagram size g.congestion_window waiting f)
   grows-datagram size waiting f h =
       all-cond (Grows g) (leb size waiting) _ _
       (λ e. all-window (Grows g) (g.congestion_window + size) (λ w. f w (waiting - size)) (λ le. h (g.congestion_window + size) (waiting - size) (omega arith) (λ x. le)))
       (λ e. h g.congestion_window waiting (omega arith) (λ x. x))
 
-  abbrev grown_by : Time → Cubic → ℕ → ℕ → Result Congestion
-  grown_by start q w left = accepted (grown g w left start q)
+  abbrev grown_by : Option Moment → Cubic → ℕ → ℕ → Result Congestion Refusal
+  grown_by start q w left = Ok (grown g w left start q)
 
-  grows-grown : (start : Time) (q : Cubic) (w left : ℕ) → g.congestion_window ≤ w → (g.congestion_window ≤ 2 ^ 30 → w ≤ 2 ^ 30) → All (Grows g) (accepted (grown g w left start q))
+  grows-grown : (start : Option Moment) (q : Cubic) (w left : ℕ) → g.congestion_window ≤ w → (g.congestion_window ≤ 2 ^ 30 → w ≤ 2 ^ 30) → All (Grows g) (Ok (grown g w left start q))
   grows-grown start q w left le max = all-is (Grows g) (grown g w left start q) (record { prior = refl; thresh = refl; window = le; bound = max })
 
   grows-slow : (acked : ℕ) → All (Grows g) (slow_start acked g)
@@ -58,20 +58,20 @@ module _ (g : Congestion) where
       (grows-grown g.congestion_recovery_start_time g.cubic)
 
   -- what the window aims at leaves the rest to what follows
-  aimed-all : (q : Cubic) (window size : ℕ) (t : Span) (target : ℕ) (f : ℕ → Result Congestion) → ((n : ℕ) → All (Grows g) (f n)) → All (Grows g) (aimed_at q window size t target f)
+  aimed-all : (q : Cubic) (window size : ℕ) (t : Span) (target : ℕ) (f : ℕ → Result Congestion Refusal) → ((n : ℕ) → All (Grows g) (f n)) → All (Grows g) (aimed_at q window size t target f)
   unfolding aimed_at
   aimed-all q window size t target f h = go (lt (curve (seconds_of t) q.k q.w_max (float_of size)) q.w_est)
     where
-      go : (b : Bool) → All (Grows g) (cond b (f (max window (truncated_of q.w_est))) (reach (times_of size (target - window)) λ step. reach (sum_of window (step / window)) f))
+      go : (b : Bool) → All (Grows g) (cond b (f (max window (truncated_of q.w_est))) (then (times_of size (target - window)) λ step. then (sum_of window (step / window)) f))
       go true = h (max window (truncated_of q.w_est))
       go false =
-          all-reach (Grows g) (times_of size (target - window)) (λ step. reach (sum_of window (step / window)) f) λ step.
+          all-reach (Grows g) (times_of size (target - window)) (λ step. then (sum_of window (step / window)) f) λ step.
           all-reach (Grows g) (sum_of window (step / window)) f h
 
   grows-avoid : (now : Moment) (acked : ℕ) (min_rtt : Span) → All (Grows g) (avoidance now acked min_rtt g)
   unfolding avoidance
   grows-avoid now acked min_rtt =
-      all-span (Grows g) (span_sum_of t min_rtt) (λ later. then (estimated acked window size q) (λ e. on-estimate later e)) λ later.
+      all-reach (Grows g) (span_sum_of t min_rtt) (λ later. then (estimated acked window size q) (λ e. on-estimate later e)) λ later.
       all_then (Grows g) (estimated acked window size q) (λ e. on-estimate later e) λ e x.
       aimed-all e window size t (target_of q window size later) (λ aim. on-aim e aim) λ aim.
       all-reach (Grows g) (sum_of e.cwnd_inc (aim - window)) (λ waiting. by_datagram size window waiting (ends_with e)) λ waiting.
@@ -89,16 +89,16 @@ module _ (g : Congestion) where
       q : Cubic
       q = begun g.congestion_recovery_start_time window g.cubic
 
-      ends_with : Cubic → ℕ → ℕ → Result Congestion
+      ends_with : Cubic → ℕ → ℕ → Result Congestion Refusal
       ends_with e next left =
-          accepted
-          (grown g next g.bytes_acked_sl (At (start_of g.congestion_recovery_start_time now))
+          Ok
+          (grown g next g.bytes_acked_sl (Some (start_of g.congestion_recovery_start_time now))
           (record { k = e.k; w_max = e.w_max; w_est = e.w_est; alpha_aimd = e.alpha_aimd; cwnd_inc = left }))
 
-      on-aim : Cubic → ℕ → Result Congestion
-      on-aim e aim = reach (sum_of e.cwnd_inc (aim - window)) (λ waiting. by_datagram size window waiting (ends_with e))
+      on-aim : Cubic → ℕ → Result Congestion Refusal
+      on-aim e aim = then (sum_of e.cwnd_inc (aim - window)) (λ waiting. by_datagram size window waiting (ends_with e))
 
-      on-estimate : Span → Cubic → Result Congestion
+      on-estimate : Span → Cubic → Result Congestion Refusal
       on-estimate later e = aimed_at e window size t (target_of q window size later) (on-aim e)
 
   grows-grow : (now : Moment) (acked : ℕ) (min_rtt : Span) → All (Grows g) (grow now acked min_rtt g)
@@ -133,11 +133,11 @@ first : (a b : Bool) → (a && b) ≡ true → a ≡ true
 first true b e = refl
 first false b e = clash' e
 
-times-is : (a b n : ℕ) → times_of a b ≡ Fine n → n ≡ a * b
+times-is : (a b n : ℕ) → times_of a b ≡ Ok n → n ≡ a * b
 unfolding times_of within
 times-is a b n = go (leb (a * b) limit)
   where
-    go : (t : Bool) → cond t (Fine (a * b)) Over ≡ Fine n → n ≡ a * b
+    go : (t : Bool) → cond t (Ok (a * b)) (Err TooLarge) ≡ Ok n → n ≡ a * b
     go true e = cc
     go false e = absurd (let z : ◌≡◌ {A = ℕ} 0 1 = cc in let w : ⊥ = omega arith in w)
 
@@ -166,15 +166,15 @@ module _ (g : Congestion) where
       w_max : Float
       w_max = w_max_next g.congestion_window g.cubic.w_max
 
-      on-window : ℕ → Result Congestion
+      on-window : ℕ → Result Congestion Refusal
       on-window window =
           then (k_next w_max window g.max_datagram_size) λ k.
-          accepted
+          Ok
           (record {
             congestion_window = window;
             ssthresh = window;
             bytes_acked_sl = g.bytes_acked_sl;
-            congestion_recovery_start_time = At now;
+            congestion_recovery_start_time = Some now;
             lost_count = g.lost_count;
             cubic = record { k = k; w_max = w_max; w_est = float_of window; alpha_aimd = alpha_aimd; cwnd_inc = times_beta g.cubic.cwnd_inc };
             prior = checkpoint g;
@@ -191,7 +191,7 @@ module _ (g : Congestion) where
           let o : not (in_recovery g.congestion_recovery_start_time sent) ≡ true = ap not e in
           record { opened = λ x. p; kept = λ x. clash (sym o ∙ x); rolled = λ x. clash' x; window = λ x y. clash (sym o ∙ x); thresh = λ x y. clash (sym o ∙ x); bound = λ x y. clash (sym o ∙ x) }
 
-      go : (b : Bool) → in_recovery g.congestion_recovery_start_time sent ≡ b → All (Made g (lose now sent)) (cond b (accepted g) (reduce now g))
+      go : (b : Bool) → in_recovery g.congestion_recovery_start_time sent ≡ b → All (Made g (lose now sent)) (cond b (Ok g) (reduce now g))
       go true e =
           let o : not (in_recovery g.congestion_recovery_start_time sent) ≡ false = ap not e in
           all-is (Made g (lose now sent)) g (record { opened = λ x. clash (sym x ∙ o); kept = λ x. refl; rolled = λ x. clash' x; window = λ x y. omega arith; thresh = λ x y. refl; bound = λ x y z. z })
@@ -212,7 +212,7 @@ module _ (g : Congestion) where
     unfolding opens
     grown-move down h w = record { opened = λ x. clash' x; kept = λ x. w.prior; rolled = λ x. clash (sym x ∙ down); window = λ x y. w.window; thresh = λ x y. w.thresh; bound = λ x y. w.bound }
 
-    same_move : succeeds g acking ≡ false → All (Made g acking) (accepted g)
+    same_move : succeeds g acking ≡ false → All (Made g acking) (Ok g)
     same_move down = all-is (Made g acking) g (grown-move down g (grows_same g))
 
     grow-move : succeeds g acking ≡ false → All (Made g acking) (grow now size min_rtt g)
@@ -222,14 +222,14 @@ module _ (g : Congestion) where
     unfolding acked_outside few_lost asks few opens
     made-outside out free = go (is_unset g.congestion_recovery_start_time) refl
       where
-        on-few : Bool → Result Congestion
-        on-few b = cond (b && rolls_back g) (accepted (rolled_back g)) (grow now size min_rtt g)
+        on-few : Bool → Result Congestion Refusal
+        on-few b = cond (b && rolls_back g) (Ok (rolled_back g)) (grow now size min_rtt g)
 
         done : is_unset g.congestion_recovery_start_time ≡ false → few g ≡ true → rolls_back g ≡ true → succeeds g acking ≡ true
         done set f r = rw (out, free, set, f, r) refl
 
         tested : is_unset g.congestion_recovery_start_time ≡ false → (b : Bool) → few g ≡ b → (c : Bool) → rolls_back g ≡ c →
-            All (Made g acking) (cond (b && c) (accepted (rolled_back g)) (grow now size min_rtt g))
+            All (Made g acking) (cond (b && c) (Ok (rolled_back g)) (grow now size min_rtt g))
         tested set true f true r =
             all-is (Made g acking) (rolled_back g)
             (record {
@@ -244,10 +244,10 @@ module _ (g : Congestion) where
         tested set false f c r = grow-move (rw (out, free, set, f) refl)
 
         go : (u : Bool) → is_unset g.congestion_recovery_start_time ≡ u →
-            All (Made g acking) (cond u (grow now size min_rtt g) (reach (times_of (g.congestion_window / g.max_datagram_size) 20) λ n. on-few (ltb (g.lost_count - g.prior.lost_count) (max (n / 100) 2))))
+            All (Made g acking) (cond u (grow now size min_rtt g) (then (times_of (g.congestion_window / g.max_datagram_size) 20) λ n. on-few (ltb (g.lost_count - g.prior.lost_count) (max (n / 100) 2))))
         go true u = grow-move (rw (out, free, u) refl)
         go false u =
-            all-reached (Made g acking) (times_of (g.congestion_window / g.max_datagram_size) 20)
+            all_then (Made g acking) (times_of (g.congestion_window / g.max_datagram_size) 20)
             (λ n. on-few (ltb (g.lost_count - g.prior.lost_count) (max (n / 100) 2))) λ n e.
             rw (times-is (g.congestion_window / g.max_datagram_size) 20 n e) (tested u (few g) refl (rolls_back g) refl)
 
@@ -256,7 +256,7 @@ module _ (g : Congestion) where
     made-ack = go (in_recovery g.congestion_recovery_start_time sent) refl limited refl
       where
         go : (a : Bool) → in_recovery g.congestion_recovery_start_time sent ≡ a → (b : Bool) → limited ≡ b →
-            All (Made g acking) (cond a (accepted g) (cond b (accepted g) (acked_outside now size min_rtt g)))
+            All (Made g acking) (cond a (Ok g) (cond b (Ok g) (acked_outside now size min_rtt g)))
         go true e b f = same_move (rw e refl)
         go false e true f = same_move (rw (e, f) refl)
         go false e false f = made-outside e f
@@ -264,10 +264,10 @@ module _ (g : Congestion) where
   made-resize : (old new : ℕ) → All (Made g (resize old new)) (resized old new g)
   unfolding resized opens asks keeps_size
   made-resize old new =
-      all-reached (Made g (resize old new)) (times_of old g.initial_window_packets) by_size λ before e.
-      all-cond (Made g (resize old new)) (eqb g.congestion_window before) to-new (accepted g)
+      all_then (Made g (resize old new)) (times_of old g.initial_window_packets) by_size λ before e.
+      all-cond (Made g (resize old new)) (eqb g.congestion_window before) to-new (Ok g)
       (λ same.
-      all-reached (Made g (resize old new)) (times_of new g.initial_window_packets) (λ n. reach_window n on-window) λ n f.
+      all_then (Made g (resize old new)) (times_of new g.initial_window_packets) (λ n. reach_window n on-window) λ n f.
       all-window (Made g (resize old new)) n on-window λ max.
       all-is (Made g (resize old new)) (grown g n g.bytes_acked_sl g.congestion_recovery_start_time g.cubic)
       (record {
@@ -282,14 +282,14 @@ module _ (g : Congestion) where
       all-is (Made g (resize old new)) g
       (record { opened = λ x. clash' x; kept = λ x. refl; rolled = λ x. clash' x; window = λ x y. omega arith; thresh = λ x y. refl; bound = λ x y z. z }))
     where
-      on-window : ℕ → Result Congestion
-      on-window w = accepted (grown g w g.bytes_acked_sl g.congestion_recovery_start_time g.cubic)
+      on-window : ℕ → Result Congestion Refusal
+      on-window w = Ok (grown g w g.bytes_acked_sl g.congestion_recovery_start_time g.cubic)
 
-      to-new : Result Congestion
-      to-new = reach (times_of new g.initial_window_packets) λ n. reach_window n on-window
+      to-new : Result Congestion Refusal
+      to-new = then (times_of new g.initial_window_packets) λ n. reach_window n on-window
 
-      by_size : ℕ → Result Congestion
-      by_size before = cond (eqb g.congestion_window before) to-new (accepted g)
+      by_size : ℕ → Result Congestion Refusal
+      by_size before = cond (eqb g.congestion_window before) to-new (Ok g)
 
       still : (before n : ℕ) → before ≡ old * g.initial_window_packets → n ≡ new * g.initial_window_packets → g.congestion_window ≡ before → old ≡ new →
           g.congestion_window ≤ n
@@ -314,18 +314,18 @@ flip false e = refl
 
 -- an ack whose rollback is asked for and turned down goes on as growth alone
 module _ (g : Congestion) (now sent : Moment) (size : ℕ) (limited : Bool) (min_rtt : Span) (h : Congestion) where
-  declined : (r : Bool) → r ≡ false → (x : Sum) (t : ℕ → Bool) → reach x (λ n. cond (t n && r) (accepted (rolled_back g)) (grow now size min_rtt g)) ≡ accepted h →
-      grow now size min_rtt g ≡ accepted h
+  declined : (r : Bool) → r ≡ false → (x : Result ℕ Refusal) (t : ℕ → Bool) → then x (λ n. cond (t n && r) (Ok (rolled_back g)) (grow now size min_rtt g)) ≡ Ok h →
+      grow now size min_rtt g ≡ Ok h
   declined true e x t w = clash e
-  declined false e (Fine n) t w = none (t n) w
+  declined false e (Ok n) t w = none (t n) w
     where
-      none : (b : Bool) → cond (b && false) (accepted (rolled_back g)) (grow now size min_rtt g) ≡ accepted h → grow now size min_rtt g ≡ accepted h
+      none : (b : Bool) → cond (b && false) (Ok (rolled_back g)) (grow now size min_rtt g) ≡ Ok h → grow now size min_rtt g ≡ Ok h
       none true w = w
       none false w = w
-  declined false e Over t w = no_value w
+  declined false e (Err why) t w = no_value w
 
   pub turned_down : asks g (ack now sent size limited min_rtt) ≡ true → succeeds g (ack now sent size limited min_rtt) ≡ false →
-      moved (ack now sent size limited min_rtt) g ≡ accepted h → grow now size min_rtt g ≡ accepted h
+      moved (ack now sent size limited min_rtt) g ≡ Ok h → grow now size min_rtt g ≡ Ok h
   unfolding moved packet_acked acked_outside few_lost asks
   turned_down q n w =
       let a = both (not (in_recovery g.congestion_recovery_start_time sent)) _ q in

@@ -10,7 +10,8 @@ use borrow.Author.Tests.{lt-ltb}
 use native.Mathlib.Nat.{mul-le-mul_left, le_trans}
 use Rattle.arith.specs.declared.time.Moment.{Moment}
 use Rattle.arith.specs.declared.time.Span.{Span}
-use Rattle.model.specs.Numbers.{Result, accepted, refused, must, is_datagram_size, are_settings}
+use Rattle.arith.specs.Refusals.{must}
+use Rattle.model.specs.Numbers.{is_datagram_size, are_settings}
 use Rattle.model.specs.Cubic.{checkpoint, rolls_back, rolled_back, rollback, grow, congestion_fresh}
 use Rattle.model.specs.Control.{Move, forgive, ack, moved, control}
 use Rattle.model.specs.Connection.{Connection, fresh, space_fresh, shared_fresh}
@@ -20,12 +21,13 @@ use Rattle.model.specs.History.{Seen, seen, Entry, entries_from, moves_by, moves
 use Rattle.model.specs.Promises.{Promises}
 use Rattle.model.specs.declared.Congestion.{Congestion}
 use Rattle.model.specs.declared.PriorState.{PriorState}
-use Rattle.model.specs.declared.Refusal.{Refusal}
-use Rattle.model.specs.declared.Refusal.TheVariants.{Domain}
+use Rattle.arith.specs.declared.refusal.Refusal.{Refusal}
+use Rattle.arith.specs.declared.refusal.Refusal.TheVariants.{Domain}
 use Rattle.model.specs.declared.Settings.{Settings}
 use Rattle.model.proofs.Peel.{All, all-is, all-must, no_value}
 use Rattle.model.proofs.Moves.{Made, made, rises, turned_down}
 use Rattle.model.proofs.Events.{control-append, sound}
+use Rattle.std.specs.Prelude.{Result, Ok, Err}
 
 clash : {A : Type 0} → true ≡ false → A
 clash e = absurd (let z : ◌≡◌ {A = ℕ} 0 1 = cc in let w : ⊥ = omega arith in w)
@@ -55,15 +57,15 @@ flip true e = clash (sym e)
 flip false e = refl
 
 -- ---- the history is the sender's own
-one-own : (e : Event) (c : Connection) → control (moves_by (step e c)) c.shared.congestion ≡ accepted (after e c).shared.congestion
+one-own : (e : Event) (c : Connection) → control (moves_by (step e c)) c.shared.congestion ≡ Ok (after e c).shared.congestion
 unfolding after control
 one-own e c = go (step e c) refl
   where
-    go : (x : Result (Step Answer)) → step e c ≡ x → control (moves_by x) c.shared.congestion ≡ accepted (state_by c x).shared.congestion
-    go (accepted x) p = sound c e x p
-    go (refused n) p = refl
+    go : (x : Result (Step Answer) Refusal) → step e c ≡ x → control (moves_by x) c.shared.congestion ≡ Ok (state_by c x).shared.congestion
+    go (Ok x) p = sound c e x p
+    go (Err n) p = refl
 
-events-own : (l : List Event) (c : Connection) → control (moves_of l c) c.shared.congestion ≡ accepted (run l c).shared.congestion
+events-own : (l : List Event) (c : Connection) → control (moves_of l c) c.shared.congestion ≡ Ok (run l c).shared.congestion
 unfolding moves_of run control
 events-own [] c = refl
 events-own (e ∷ l) c = control-append (moves_by (step e c)) (moves_of l (after e c)) c.shared.congestion ∙ rw (one-own e c) (events-own l (after e c))
@@ -105,11 +107,11 @@ none_is (x ∷ a) e b p = absurd (let z : ◌≡◌ {A = ℕ} 0 1 = cc in let w 
 abbrev entry : Congestion → Move → Congestion → Entry
 entry g m h = record { before = g; move = m; after = h }
 
-entries-made : (g : Congestion) (m : Move) (h : Congestion) (ms : List Move) → moved m g ≡ accepted h → entries_from g (m ∷ ms) ≡ entry g m h ∷ entries_from h ms
+entries-made : (g : Congestion) (m : Move) (h : Congestion) (ms : List Move) → moved m g ≡ Ok h → entries_from g (m ∷ ms) ≡ entry g m h ∷ entries_from h ms
 unfolding entries_from
 entries-made g m h ms e = rw e refl
 
-entries-refused : (g : Congestion) (m : Move) (ms : List Move) {n : Refusal} → moved m g ≡ refused n → entries_from g (m ∷ ms) ≡ []
+entries-refused : (g : Congestion) (m : Move) (ms : List Move) {n : Refusal} → moved m g ≡ Err n → entries_from g (m ∷ ms) ≡ []
 unfolding entries_from
 entries-refused g m ms e = rw e refl
 
@@ -121,11 +123,11 @@ module _ {S : Type 0} (note : S → Congestion → Move → S) (Inv : S → Cong
 
   record At (k : S) (a : List Entry) (e : Entry) (b : List Entry) : Type 0 where
     inv : Inv (noted k a) e.before
-    was : moved e.move e.before ≡ accepted e.after
+    was : moved e.move e.before ≡ Ok e.after
     rest : (ms : List Move) × (entries_from e.after ms ≡ b)
 
   -- a list that begins with a move's entry: it is the wanted one, or the wanted one comes later
-  step-to : (k : S) (g : Congestion) (m : Move) (h : Congestion) (rest : List Entry) → moved m g ≡ accepted h → Inv k g →
+  step-to : (k : S) (g : Congestion) (m : Move) (h : Congestion) (rest : List Entry) → moved m g ≡ Ok h → Inv k g →
       ((a : List Entry) (e : Entry) (b : List Entry) → rest ≡ a ++ (e ∷ b) → At (note k g m) a e b) →
       ((ms : List Move) × (entries_from h ms ≡ rest)) →
       (a : List Entry) (e : Entry) (b : List Entry) → entry g m h ∷ rest ≡ a ++ (e ∷ b) → At k a e b
@@ -146,10 +148,10 @@ module _ {S : Type 0} (note : S → Congestion → Move → S) (Inv : S → Cong
   walk (m ∷ ms) g k x a e b p = go (λ h y. walk ms h (note k g m) y) (moved m g) refl
     where
       go : ((h : Congestion) → Inv (note k g m) h → (a : List Entry) (e : Entry) (b : List Entry) → entries_from h ms ≡ a ++ (e ∷ b) → At (note k g m) a e b) →
-          (r : Result Congestion) → moved m g ≡ r → At k a e b
-      go ih (accepted h) q =
+          (r : Result Congestion Refusal) → moved m g ≡ r → At k a e b
+      go ih (Ok h) q =
           step-to k g m h (entries_from h ms) q x (ih h (on g m h (made g m h q) k x)) (ms, refl) a e b (sym (entries-made g m h ms q) ∙ p)
-      go ih (refused n) q = none_is a e b (sym (entries-refused g m ms q) ∙ p)
+      go ih (Err n) q = none_is a e b (sym (entries-refused g m ms q) ∙ p)
 
 -- ---- the latest period is noted
 abbrev kept_note : Kept → Congestion → Move → Kept
@@ -267,11 +269,11 @@ unfolding fresh shared_fresh congestion_fresh
 fresh-early s = go (are_settings s) refl
   where
     go : (b : Bool) → are_settings s ≡ b → All (λ (c : Connection). Early c.shared.congestion)
-        (must b Domain (accepted (record { initial = space_fresh; handshake = space_fresh; application = space_fresh; shared = shared_fresh s })))
+        (must b Domain (Ok (record { initial = space_fresh; handshake = space_fresh; application = space_fresh; shared = shared_fresh s })))
     go true e = all-is (λ (c : Connection). Early c.shared.congestion) _ (record { thresh = refl; window = small-window s e; prior = refl })
     go false e = λ a p. no_value p
 
-module _ (s : Settings) (c : Connection) (start : fresh s ≡ accepted c) (calls : List Event) where
+module _ (s : Settings) (c : Connection) (start : fresh s ≡ Ok c) (calls : List Event) where
   place : (a : List Entry) (e : Entry) (b : List Entry) → history calls c ≡ a ++ (e ∷ b) → At kept_note Holds holds_on never a e b
   unfolding history
   place a e b p = walk kept_note Holds holds_on (moves_of calls c) c.shared.congestion never (fresh_holds s c start) a e b p
@@ -292,13 +294,13 @@ module _ (s : Settings) (c : Connection) (start : fresh s ≡ accepted c) (calls
   keeps : (a : List Entry) (e : Entry) (b : List Entry) → history calls c ≡ a ++ (e ∷ b) → e.move ≡ forgive → succeeds e.before e.move ≡ false → e.after ≡ e.before
   unfolding moved rollback asks
   keeps a e b p f n =
-      let w : moved forgive e.before ≡ accepted e.after = rw f at (place a e b p).was in
+      let w : moved forgive e.before ≡ Ok e.after = rw f at (place a e b p).was in
       let r : succeeds e.before forgive ≡ false = rw f at n in
       same w r
     where
-      same : moved forgive e.before ≡ accepted e.after → succeeds e.before forgive ≡ false → e.after ≡ e.before
-      same w r = let u : accepted (cond (rolls_back e.before) (rolled_back e.before) e.before) ≡ accepted e.after = w in
-          let v : accepted e.before ≡ accepted e.after = rw r at u in cc
+      same : moved forgive e.before ≡ Ok e.after → succeeds e.before forgive ≡ false → e.after ≡ e.before
+      same w r = let u : Ok (cond (rolls_back e.before) (rolled_back e.before) e.before) ≡ Ok e.after = w in
+          let v : Ok e.before ≡ Ok e.after = rw r at u in cc
 
   between : (a : List Entry) (e : Entry) (b : List Entry) (f : Entry) (d : List Entry) → history calls c ≡ a ++ (e ∷ (b ++ (f ∷ d))) →
       T (succeeds e.before e.move) → T (succeeds f.before f.move) → T (size_kept b) → T (begins b)
@@ -338,9 +340,9 @@ module _ (s : Settings) (c : Connection) (start : fresh s ≡ accepted c) (calls
 
   goes_on : (a : List Entry) (e : Entry) (b : List Entry) (now sent : Moment) (size : ℕ) (limited : Bool) (min_rtt : Span) →
       history calls c ≡ a ++ (e ∷ b) → e.move ≡ ack now sent size limited min_rtt → asks e.before e.move ≡ true → succeeds e.before e.move ≡ false →
-      grow now size min_rtt e.before ≡ accepted e.after
+      grow now size min_rtt e.before ≡ Ok e.after
   goes_on a e b now sent size limited min_rtt p m q n =
-      let w : moved (ack now sent size limited min_rtt) e.before ≡ accepted e.after = rw m at (place a e b p).was in
+      let w : moved (ack now sent size limited min_rtt) e.before ≡ Ok e.after = rw m at (place a e b p).was in
       turned_down e.before now sent size limited min_rtt e.after (rw m at q) (rw m at n) w
 
   first-stays : (a : List Entry) (o : Entry) (b : List Entry) (e : Entry) (d : List Entry) → history calls c ≡ a ++ (o ∷ (b ++ (e ∷ d))) →

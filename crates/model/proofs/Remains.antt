@@ -12,7 +12,8 @@ use lib.Seq.{get_or-drop}
 use borrow.Author.Tests.{ltb-true, ltb-false}
 use Rattle.arith.specs.declared.time.Moment.{Moment}
 use Rattle.arith.specs.declared.time.Span.{Span}
-use Rattle.model.specs.Numbers.{Result, accepted, must, is_unset}
+use Rattle.arith.specs.Refusals.{must}
+use Rattle.model.specs.Numbers.{is_unset}
 use Rattle.model.specs.Sent.{marked, standing, may_leave, drained}
 use Rattle.model.specs.Loss.{is_lost}
 use Rattle.model.specs.Timer.{timer_of}
@@ -20,12 +21,11 @@ use Rattle.model.specs.Connection.{Space, Connection, space_at, with_space, with
 use Rattle.model.specs.Strength.{acknowledged, ends, scanned, fallen, Elsewhere}
 use Rattle.model.specs.declared.HandshakeStatus.{HandshakeStatus}
 use Rattle.model.specs.declared.Judge.{Judge}
-use Rattle.model.specs.declared.Refusal.{Refusal}
+use Rattle.arith.specs.declared.refusal.Refusal.{Refusal}
 use Rattle.model.specs.declared.Sent.{Sent}
 use Rattle.model.specs.declared.Shared.{Shared}
-use Rattle.model.specs.declared.Time.{Time}
-use Rattle.model.specs.declared.Time.TheVariants.{At}
 use Rattle.model.proofs.Peel.{All, all-is, all_then, no_value}
+use Rattle.std.specs.Prelude.{Result, Ok, Option, Some}
 
 -- ---- records
 
@@ -98,7 +98,7 @@ remains-drained {ticks} {l} {k} now smoothed h =
     subst (λ (x : List Sent). Remains ticks l x) (sym d.2) (remains-drop d.0 d.1 h)
 
 -- a loss marks none that is acked
-fall-acked : (r : Sent) (b : Bool) (t : Time) → (standing r ≡ false → b ≡ false) → (cond b (marked r false t) r).acked ≡ r.acked
+fall-acked : (r : Sent) (b : Bool) (t : Option Moment) → (standing r ≡ false → b ≡ false) → (cond b (marked r false t) r).acked ≡ r.acked
 unfolding marked
 fall-acked r false t h = refl
 fall-acked r true t h = go r.acked refl
@@ -116,10 +116,10 @@ fallen-marks j [] = refl
 fallen-marks j (r ∷ l) = go (ends j r) (fallen-marks j l)
   where
     fall : Sent → Sent
-    fall q = cond (standing q && is_lost j q) (marked q false (At j.now)) q
+    fall q = cond (standing q && is_lost j q) (marked q false (Some j.now)) q
 
     same : (fall r).acked ≡ r.acked
-    same = fall-acked r (standing r && is_lost j r) (At j.now) (first-false (standing r) (is_lost j r))
+    same = fall-acked r (standing r && is_lost j r) (Some j.now) (first-false (standing r) (is_lost j r))
 
     go : (b : Bool) → marks (map fall (scanned j l) ++ drop (length (scanned j l)) l) ≡ marks l →
         marks (map fall (cond b [] (r ∷ scanned j l)) ++ drop (length (cond b [] (r ∷ scanned j l))) (r ∷ l)) ≡ r.acked ∷ marks l
@@ -183,15 +183,15 @@ with-else n s x c =
 
 -- an event that ends in the timer: the connection before it, but for the timer
 abbrev pub Ended : Shared → Connection → Connection → Type 0
-Ended x w d = (t : Time) × (d ≡ with_shared (with_timer t x) w)
+Ended x w d = (t : Option Moment) × (d ≡ with_shared (with_timer t x) w)
 
 pub ended : (now : Moment) (status : HandshakeStatus) (x : Shared) (w : Connection) → All (Ended x w) (timed now status (with_shared x w))
 unfolding timed
 ended now status x w =
-    all_then (Ended x w) (timer_of (facts_of now status (with_shared x w))) (λ t. accepted (with_shared (with_timer t x) w)) λ t e.
+    all_then (Ended x w) (timer_of (facts_of now status (with_shared x w))) (λ t. Ok (with_shared (with_timer t x) w)) λ t e.
     all-is (Ended x w) (with_shared (with_timer t x) w) (t, refl)
 
 -- a test that an accepted event has passed
-pub all_tested : {A : Type 0} (P : A → Type 0) (b : Bool) (k : Refusal) (r : Result A) → (b ≡ true → All P r) → All P (must b k r)
+pub all_tested : {A : Type 0} (P : A → Type 0) (b : Bool) (k : Refusal) (r : Result A Refusal) → (b ≡ true → All P r) → All P (must b k r)
 all_tested P true k r h = h refl
 all_tested P false k r h = λ a e. no_value e

@@ -11,8 +11,8 @@ use lib.ListN.{length}
 use borrow.Author.Tests.{ltb-true}
 use Rattle.arith.specs.Whole.{limit, within, sum_of}
 use Rattle.arith.specs.declared.time.Moment.{Moment}
-use Rattle.arith.specs.declared.time.Sum.TheVariants.{Fine, Over}
-use Rattle.model.specs.Numbers.{accepted, then, on_clock, is_space, is_datagram_size, capacity}
+use Rattle.arith.specs.Refusals.{then}
+use Rattle.model.specs.Numbers.{on_clock, is_space, is_datagram_size, capacity}
 use Rattle.model.specs.Sent.{standing, newest, rest}
 use Rattle.model.specs.Cubic.{in_recovery, congestion_event, resized}
 use Rattle.model.specs.Control.{resize, control, moved}
@@ -23,10 +23,10 @@ use Rattle.model.specs.Strength.{those, sizes, Sends, Discards, Resizes, Takes, 
 use Rattle.model.specs.declared.Congestion.{Congestion}
 use Rattle.model.specs.declared.HandshakeStatus.{HandshakeStatus}
 use Rattle.model.specs.declared.Packet.{Packet}
-use Rattle.model.specs.declared.Refusal.TheVariants.{Clock, Domain, Stale, Full}
+use Rattle.arith.specs.declared.refusal.Refusal.TheVariants.{Clock, Domain, Stale, Full}
 use Rattle.model.specs.declared.Sent.{Sent}
 use Rattle.model.specs.declared.Shared.{Shared}
-use Rattle.model.proofs.Peel.{All, all-is, all_then, all-must, all-cond, all-reached, all-reach}
+use Rattle.model.proofs.Peel.{All, all-is, all_then, all-must, all-cond, all-reach}
 use Rattle.model.proofs.Counts.{sum_is}
 use Rattle.model.proofs.Events.{sound}
 use Rattle.model.proofs.Told.{resizes, rises-told, raised, opens-reduced}
@@ -36,6 +36,8 @@ use Rattle.model.proofs.Remains.{with-here, with-else, ended, all_tested}
 use Rattle.model.proofs.Acking.{acknowledges}
 use Rattle.model.proofs.TimingOut.{times_out}
 use Rattle.model.proofs.Counted.{counted}
+use Rattle.std.specs.Prelude.{Ok, Err}
+use Rattle.arith.specs.declared.refusal.Refusal.TheVariants.{TooLarge}
 
 first : (a b : Bool) → (a && b) ≡ true → a ≡ true
 first true b e = refl
@@ -62,7 +64,7 @@ module _ (now : Moment) (n : ℕ) (p : Packet) (c : Connection) where
   unfolding sent_in_flight
   sent-flying small f status run =
       all-reach Sending (sum_of (space_at n c).epoch.in_flight_count 1) _ λ in_flight.
-      all-reached Sending (sum_of c.shared.bytes_in_flight p.size) _ λ bytes s.
+      all_then Sending (sum_of c.shared.bytes_in_flight p.size) _ λ bytes s.
       all_then Sending
       (timed now status (with_shared (shared_sent now run bytes c.shared) (with_space n (space_sent now p in_flight (space_at n c)) c))) _ λ d e.
       all-is Sending _
@@ -92,11 +94,11 @@ module _ (now : Moment) (n : ℕ) (p : Packet) (c : Connection) where
       running small false = all-reach Sending (sum_of c.shared.outstanding_non_ack_eliciting 1) _ (way small)
 
 -- ---- discard
-within-is : (a n : ℕ) → within a ≡ Fine n → n ≡ a
+within-is : (a n : ℕ) → within a ≡ Ok n → n ≡ a
 unfolding within
 within-is a n = go (leb a limit)
   where
-    go : (t : Bool) → cond t (Fine a) Over ≡ Fine n → n ≡ a
+    go : (t : Bool) → cond t (Ok a) (Err TooLarge) ≡ Ok n → n ≡ a
     go true e = cc
     go false e = absurd (let z : ◌≡◌ {A = ℕ} 0 1 = cc in let w : ⊥ = omega arith in w)
 
@@ -115,7 +117,7 @@ unfolding on_space_discarded
 discards now n status c =
     all-must P (on_clock c.shared.clock now) Clock _
     (all_tested P (is_space n) Domain _ λ ok.
-    all-reached P (within (outstanding (space_at n c).records)) _ λ bytes f.
+    all_then P (within (outstanding (space_at n c).records)) _ λ bytes f.
     all_then P (timed now status (with_shared (shared bytes) (with_space n (space_discarded (space_at n c)) c))) _ λ d e.
     all-is P _
     (let w = ended now status (shared bytes) (with_space n (space_discarded (space_at n c)) c) d e in
@@ -156,8 +158,8 @@ resized-by size c =
         h.congestion_window
         ≡ cond (eqb g.congestion_window (c.shared.max_datagram_size * g.initial_window_packets)) (size * g.initial_window_packets) g.congestion_window
 
-    one : (h : Congestion) → then (moved (resize c.shared.max_datagram_size size) g) (λ h. accepted h) ≡ accepted h → Q h
-    one = all_then Q (resized c.shared.max_datagram_size size g) (λ h. accepted h) λ k x. all-is Q k (resizes g c.shared.max_datagram_size size k x).1
+    one : (h : Congestion) → then (moved (resize c.shared.max_datagram_size size) g) (λ h. Ok h) ≡ Ok h → Q h
+    one = all_then Q (resized c.shared.max_datagram_size size g) (λ h. Ok h) λ k x. all-is Q k (resizes g c.shared.max_datagram_size size k x).1
 
 -- ---- takes and pings
 
@@ -271,7 +273,7 @@ ping-number : (n : ℕ) (c : Connection) → refusal_of (ping_sent n c) ≡ give
 unfolding ping_sent
 ping-number n c = space-number n _
 
-lowered : (now at : Moment) (g h : Congestion) → in_recovery g.congestion_recovery_start_time at ≡ false → congestion_event now at g ≡ accepted h →
+lowered : (now at : Moment) (g h : Congestion) → in_recovery g.congestion_recovery_start_time at ≡ false → congestion_event now at g ≡ Ok h →
     g.max_datagram_size * 2 < g.congestion_window → g.congestion_window ≤ 2 ^ 30 → h.congestion_window < g.congestion_window
 lowered now at g h out e more most =
     let is = (opens-reduced g now at out h e).1 in

@@ -13,23 +13,24 @@ use Rattle.arith.specs.Time.{since_of, span_sum_of}
 use Rattle.arith.specs.Round.{float_of, truncated_of, seconds_of}
 use Rattle.arith.specs.declared.time.Moment.{Moment}
 use Rattle.arith.specs.declared.time.Span.{Span}
-use Rattle.arith.specs.declared.time.Sum.TheVariants.{Fine, Over}
-use Rattle.model.specs.Numbers.{Result, accepted, then, reach, reach_window, is_unset}
+use Rattle.arith.specs.Refusals.{then}
+use Rattle.model.specs.Numbers.{reach_window, is_unset}
 use Rattle.model.specs.Cubic.{alpha_aimd, times_beta, w_max_next, k_next, curve, in_recovery, checkpoint, rolls_back, rolled_back, rollback, reduce, congestion_event, count_lost, grown, by_datagram, slow_start, start_of, begun, target_of, estimated, aimed_at, avoidance, few_lost, grow, acked_outside, packet_acked, resized}
 use Rattle.model.specs.Control.{Move, forgive, lose, count, ack, resize, moved, control, forgive_by, lose_by, ack_each}
 use Rattle.model.specs.declared.Congestion.{Congestion}
 use Rattle.model.specs.declared.Cubic.{Cubic}
 use Rattle.model.specs.declared.Sent.{Sent}
-use Rattle.model.specs.declared.Time.{Time}
-use Rattle.model.specs.declared.Time.TheVariants.{Unset, At}
-use Rattle.model.proofs.Peel.{All, all-is, all_then, all-cond, all-reached, all-reach, all-span, all-window}
+use Rattle.model.proofs.Peel.{All, all-is, all_then, all-cond, all-reach, all-window}
 use Rattle.model.proofs.Counts.{sum_is}
+use Rattle.std.specs.Prelude.{Result, Ok, Err, Option, Some, None}
+use Rattle.arith.specs.declared.refusal.Refusal.{Refusal}
+use Rattle.arith.specs.declared.refusal.Refusal.TheVariants.{TooLarge}
 
-pub times-is : (a b n : ℕ) → times_of a b ≡ Fine n → n ≡ a * b
+pub times-is : (a b n : ℕ) → times_of a b ≡ Ok n → n ≡ a * b
 unfolding times_of within
 times-is a b n = go (leb (a * b) limit)
   where
-    go : (t : Bool) → cond t (Fine (a * b)) Over ≡ Fine n → n ≡ a * b
+    go : (t : Bool) → cond t (Ok (a * b)) (Err TooLarge) ≡ Ok n → n ≡ a * b
     go true e = cc
     go false e = absurd (let z : ◌≡◌ {A = ℕ} 0 1 = cc in let w : ⊥ = omega arith in w)
 
@@ -59,10 +60,10 @@ told-forgive true = refl
 told-forgive false = refl
 
 -- a detection's moves: the congestion event, then the count
-pub told-lost : (now : Moment) (t : Time) (n : ℕ) → told (lose_by now t ++ (count n ∷ [])) ≡ n
+pub told-lost : (now : Moment) (t : Option Moment) (n : ℕ) → told (lose_by now t ++ (count n ∷ [])) ≡ n
 unfolding told
-told-lost now Unset n = add-zero n
-told-lost now (At t) n = zero-add (n + 0) ∙ add-zero n
+told-lost now None n = add-zero n
+told-lost now (Some t) n = zero-add (n + 0) ∙ add-zero n
 
 pub told-acks : (now : Moment) (limited : Bool) (min_rtt : Span) (l : List Sent) → told (ack_each now limited min_rtt l) ≡ 0
 unfolding told ack_each
@@ -73,7 +74,7 @@ module _ (g : Congestion) where
   abbrev Same : Congestion → Type 0
   Same h = h.lost_count ≡ g.lost_count
 
-  same-datagram : (size window waiting : ℕ) (f : ℕ → ℕ → Result Congestion) → ((w left : ℕ) → All Same (f w left)) → All Same (by_datagram size window waiting f)
+  same-datagram : (size window waiting : ℕ) (f : ℕ → ℕ → Result Congestion Refusal) → ((w left : ℕ) → All Same (f w left)) → All Same (by_datagram size window waiting f)
   same-datagram size window waiting f h =
       all-cond Same (leb size waiting) (reach_window (window + size) λ w. f w (waiting - size)) (f window waiting)
       (λ e. all-window Same (window + size) (λ w. f w (waiting - size)) (λ le. h (window + size) (waiting - size)))
@@ -83,21 +84,21 @@ module _ (g : Congestion) where
   unfolding slow_start
   same-slow acked =
       all-reach Same (sum_of g.bytes_acked_sl acked) _ λ waiting.
-      same-datagram g.max_datagram_size g.congestion_window waiting (λ w left. accepted (grown g w left g.congestion_recovery_start_time g.cubic)) λ w left.
+      same-datagram g.max_datagram_size g.congestion_window waiting (λ w left. Ok (grown g w left g.congestion_recovery_start_time g.cubic)) λ w left.
       all-is Same _ refl
 
-  same-aimed : (q : Cubic) (window size : ℕ) (t : Span) (target : ℕ) (f : ℕ → Result Congestion) → ((n : ℕ) → All Same (f n)) → All Same (aimed_at q window size t target f)
+  same-aimed : (q : Cubic) (window size : ℕ) (t : Span) (target : ℕ) (f : ℕ → Result Congestion Refusal) → ((n : ℕ) → All Same (f n)) → All Same (aimed_at q window size t target f)
   unfolding aimed_at
   same-aimed q window size t target f h =
       all-cond Same (lt (curve (seconds_of t) q.k q.w_max (float_of size)) q.w_est) (f (max window (truncated_of q.w_est)))
-      (reach (times_of size (target - window)) λ step. reach (sum_of window (step / window)) f)
+      (then (times_of size (target - window)) λ step. then (sum_of window (step / window)) f)
       (λ e. h (max window (truncated_of q.w_est)))
       (λ e. all-reach Same (times_of size (target - window)) _ λ step. all-reach Same (sum_of window (step / window)) f h)
 
   same-avoid : (now : Moment) (acked : ℕ) (min_rtt : Span) → All Same (avoidance now acked min_rtt g)
   unfolding avoidance
   same-avoid now acked min_rtt =
-      all-span Same (span_sum_of t min_rtt) _ λ later.
+      all-reach Same (span_sum_of t min_rtt) _ λ later.
       all_then Same (estimated acked window size q) _ λ e x.
       same-aimed e window size t (target_of q window size later) _ λ aim.
       all-reach Same (sum_of e.cwnd_inc (aim - window)) (λ waiting. by_datagram size window waiting (ends_with e)) λ waiting.
@@ -115,10 +116,10 @@ module _ (g : Congestion) where
       q : Cubic
       q = begun g.congestion_recovery_start_time window g.cubic
 
-      ends_with : Cubic → ℕ → ℕ → Result Congestion
+      ends_with : Cubic → ℕ → ℕ → Result Congestion Refusal
       ends_with e next left =
-          accepted
-          (grown g next g.bytes_acked_sl (At (start_of g.congestion_recovery_start_time now))
+          Ok
+          (grown g next g.bytes_acked_sl (Some (start_of g.congestion_recovery_start_time now))
           (record { k = e.k; w_max = e.w_max; w_est = e.w_est; alpha_aimd = e.alpha_aimd; cwnd_inc = left }))
 
   same-grow : (now : Moment) (acked : ℕ) (min_rtt : Span) → All Same (grow now acked min_rtt g)
@@ -133,11 +134,11 @@ module _ (g : Congestion) where
   same-ack : (now sent : Moment) (size : ℕ) (limited : Bool) (min_rtt : Span) → All Same (packet_acked now sent size limited min_rtt g)
   unfolding packet_acked acked_outside few_lost
   same-ack now sent size limited min_rtt =
-      all-cond Same (in_recovery g.congestion_recovery_start_time sent) (accepted g) _ (λ e. all-is Same g refl) λ e.
-      all-cond Same limited (accepted g) _ (λ f. all-is Same g refl) λ f.
+      all-cond Same (in_recovery g.congestion_recovery_start_time sent) (Ok g) _ (λ e. all-is Same g refl) λ e.
+      all-cond Same limited (Ok g) _ (λ f. all-is Same g refl) λ f.
       all-cond Same (is_unset g.congestion_recovery_start_time) (grow now size min_rtt g) _ (λ u. same-grow now size min_rtt) λ u.
       all-reach Same (times_of (g.congestion_window / g.max_datagram_size) 20) _ λ n.
-      all-cond Same (ltb (g.lost_count - g.prior.lost_count) (max (n / 100) 2) && rolls_back g) (accepted (rolled_back g)) (grow now size min_rtt g)
+      all-cond Same (ltb (g.lost_count - g.prior.lost_count) (max (n / 100) 2) && rolls_back g) (Ok (rolled_back g)) (grow now size min_rtt g)
       (λ r. all-is Same (rolled_back g) same-rolled) (λ r. same-grow now size min_rtt)
 
   same-rollback : Same (rollback g)
@@ -155,7 +156,7 @@ module _ (g : Congestion) where
   reduces : (now : Moment) → All Reduced (reduce now g)
   unfolding reduce
   reduces now =
-      all-reached Reduced (times_of g.max_datagram_size 2) (λ least. reach_window (max (times_beta g.congestion_window) least) (λ w. on w)) λ least e.
+      all_then Reduced (times_of g.max_datagram_size 2) (λ least. reach_window (max (times_beta g.congestion_window) least) (λ w. on w)) λ least e.
       all-window Reduced (max (times_beta g.congestion_window) least) (λ w. on w) λ le.
       all_then Reduced (k_next w_max (max (times_beta g.congestion_window) least) g.max_datagram_size) _ λ k f.
       all-is Reduced _ (refl, ap (λ (x : ℕ). max (times_beta g.congestion_window) x) (times-is g.max_datagram_size 2 least e))
@@ -163,15 +164,15 @@ module _ (g : Congestion) where
       w_max : Float
       w_max = w_max_next g.congestion_window g.cubic.w_max
 
-      on : ℕ → Result Congestion
+      on : ℕ → Result Congestion Refusal
       on window =
           then (k_next w_max window g.max_datagram_size) λ k.
-          accepted
+          Ok
           (record {
             congestion_window = window;
             ssthresh = window;
             bytes_acked_sl = g.bytes_acked_sl;
-            congestion_recovery_start_time = At now;
+            congestion_recovery_start_time = Some now;
             lost_count = g.lost_count;
             cubic = record { k = k; w_max = w_max; w_est = float_of window; alpha_aimd = alpha_aimd; cwnd_inc = times_beta g.cubic.cwnd_inc };
             prior = checkpoint g;
@@ -182,7 +183,7 @@ module _ (g : Congestion) where
   same-lose : (now sent : Moment) → All Same (congestion_event now sent g)
   unfolding congestion_event
   same-lose now sent =
-      all-cond Same (in_recovery g.congestion_recovery_start_time sent) (accepted g) (reduce now g) (λ e. all-is Same g refl) (λ e h x. (reduces now h x).0)
+      all-cond Same (in_recovery g.congestion_recovery_start_time sent) (Ok g) (reduce now g) (λ e. all-is Same g refl) (λ e h x. (reduces now h x).0)
 
   pub opens-reduced : (now sent : Moment) → in_recovery g.congestion_recovery_start_time sent ≡ false → All Reduced (congestion_event now sent g)
   unfolding congestion_event
@@ -197,22 +198,22 @@ module _ (g : Congestion) where
   pub resizes : (old new : ℕ) → All (Resized old new) (resized old new g)
   unfolding resized
   resizes old new =
-      all-reached (Resized old new) (times_of old g.initial_window_packets) _ λ before e.
-      all-cond (Resized old new) (eqb g.congestion_window before) to-new (accepted g)
+      all_then (Resized old new) (times_of old g.initial_window_packets) _ λ before e.
+      all-cond (Resized old new) (eqb g.congestion_window before) to-new (Ok g)
       (λ f.
-      all-reached (Resized old new) (times_of new g.initial_window_packets) (λ n. reach_window n on) λ n x.
+      all_then (Resized old new) (times_of new g.initial_window_packets) (λ n. reach_window n on) λ n x.
       all-window (Resized old new) n on λ le.
       all-is (Resized old new) (grown g n g.bytes_acked_sl g.congestion_recovery_start_time g.cubic)
       (refl, times-is new g.initial_window_packets n x ∙ by before e true f))
       (λ f. all-is (Resized old new) g (refl, by before e false f))
     where
-      on : ℕ → Result Congestion
-      on w = accepted (grown g w g.bytes_acked_sl g.congestion_recovery_start_time g.cubic)
+      on : ℕ → Result Congestion Refusal
+      on w = Ok (grown g w g.bytes_acked_sl g.congestion_recovery_start_time g.cubic)
 
-      to-new : Result Congestion
-      to-new = reach (times_of new g.initial_window_packets) λ n. reach_window n on
+      to-new : Result Congestion Refusal
+      to-new = then (times_of new g.initial_window_packets) λ n. reach_window n on
 
-      by : (before : ℕ) → times_of old g.initial_window_packets ≡ Fine before → (b : Bool) → eqb g.congestion_window before ≡ b →
+      by : (before : ℕ) → times_of old g.initial_window_packets ≡ Ok before → (b : Bool) → eqb g.congestion_window before ≡ b →
           cond b (new * g.initial_window_packets) g.congestion_window
           ≡ cond (eqb g.congestion_window (old * g.initial_window_packets)) (new * g.initial_window_packets) g.congestion_window
       by before e b f =
@@ -222,14 +223,14 @@ module _ (g : Congestion) where
   abbrev Rises : ℕ → Congestion → Type 0
   Rises n h = h.lost_count ≡ g.lost_count + n
 
-  rises-none : (r : Result Congestion) → All Same r → All (Rises 0) r
+  rises-none : (r : Result Congestion Refusal) → All Same r → All (Rises 0) r
   rises-none r f h e = f h e ∙ sym (add-zero _)
 
   rises : (m : Move) → All (Rises (told_by m)) (moved m g)
   unfolding moved told_by count_lost
   rises forgive = all-is (Rises 0) (rollback g) (same-rollback ∙ sym (add-zero _))
   rises (lose now sent) = rises-none _ (same-lose now sent)
-  rises (count n) = all-reached (Rises n) (sum_of g.lost_count n) _ λ total e. all-is (Rises n) _ (sum_is g.lost_count n total e)
+  rises (count n) = all_then (Rises n) (sum_of g.lost_count n) _ λ total e. all-is (Rises n) _ (sum_is g.lost_count n total e)
   rises (ack now sent size limited min_rtt) = rises-none _ (same-ack now sent size limited min_rtt)
   rises (resize old new) = rises-none _ (λ h e. (resizes old new h e).0)
 
@@ -242,10 +243,10 @@ rises-told (m ∷ ms) g =
     rises-told ms h k f ∙ ap (λ (x : ℕ). x + told ms) (rises g m h e) ∙ add_assoc g.lost_count (told_by m) (told ms)
 
 -- ---- slow start
-pub raised : (now sent : Moment) (bytes : ℕ) (min_rtt : Span) (g : Congestion) → g.congestion_recovery_start_time ≡ Unset →
+pub raised : (now sent : Moment) (bytes : ℕ) (min_rtt : Span) (g : Congestion) → g.congestion_recovery_start_time ≡ None →
     g.congestion_window < g.ssthresh → g.max_datagram_size ≤ g.bytes_acked_sl + bytes →
     g.bytes_acked_sl + bytes ≤ limit → g.congestion_window + g.max_datagram_size ≤ 2 ^ 30 →
-    (h : Congestion) × (packet_acked now sent bytes false min_rtt g ≡ accepted h) × (h.congestion_window ≡ g.congestion_window + g.max_datagram_size)
+    (h : Congestion) × (packet_acked now sent bytes false min_rtt g ≡ Ok h) × (h.congestion_window ≡ g.congestion_window + g.max_datagram_size)
 unfolding packet_acked in_recovery acked_outside grow slow_start sum_of within
 raised now sent bytes min_rtt g u below whole fits room = (
   grown g (g.congestion_window + g.max_datagram_size) (g.bytes_acked_sl + bytes - g.max_datagram_size) g.congestion_recovery_start_time g.cubic,

@@ -1,15 +1,13 @@
 -- 01 'Acknowledgement (000)' 1 and 3: what becomes of the records in the ranges, and the reordering that is borne from then on. Definitions only.
-use Rattle.std.specs.Prelude.{ℕ, ◌+◌, ◌-◌, min, max, Bool, true, false, cond, ◌||◌, List, [], ◌∷◌, ◌++◌}
+use Rattle.std.specs.Prelude.{ℕ, ◌+◌, ◌-◌, min, max, Bool, true, false, cond, ◌||◌, List, [], ◌∷◌, ◌++◌, Result, Ok, Option, Some, None}
 use Rattle.arith.specs.Whole.{sum_of}
 use Rattle.arith.specs.declared.round.TimeThreshold.TheVariants.{FiveFourths}
-use Rattle.model.specs.Numbers.{Result, accepted, then, reach}
+use Rattle.arith.specs.Refusals.{then}
 use Rattle.model.specs.Sent.{marked, queued}
-use Rattle.model.specs.declared.Number.{Number}
-use Rattle.model.specs.declared.Number.TheVariants.{Missing, Is}
 use Rattle.model.specs.declared.Reordering.{Reordering}
 use Rattle.model.specs.declared.Sent.{Sent}
-use Rattle.model.specs.declared.Time.{Time}
-use Rattle.model.specs.declared.Time.TheVariants.{Unset, At}
+use Rattle.arith.specs.declared.time.Moment.{Moment}
+use Rattle.arith.specs.declared.refusal.Refusal.{Refusal}
 
 -- what is gathered over the records in the ranges
 pub record Met : Type 0 where
@@ -22,7 +20,7 @@ pub record Met : Type 0 where
   pub in_flight : ℕ
   pub spurious : ℕ
   -- set by the first spurious one
-  pub distance : Number
+  pub distance : Option ℕ
   pub spurious_in_flight : Bool
 
 pub record Acked : Type 0 where
@@ -30,9 +28,9 @@ pub record Acked : Type 0 where
   pub met : Met
 
 -- the first spurious record sets distance = largest - number + 1
-abbrev pub distance_by : Number → ℕ → ℕ → Number
-distance_by (Is d) largest number = Is d
-distance_by Missing largest number = Is (largest - number + 1)
+abbrev pub distance_by : Option ℕ → ℕ → ℕ → Option ℕ
+distance_by (Some d) largest number = Some d
+distance_by None largest number = Some (largest - number + 1)
 
 -- lost: mark acked, count spurious
 abbrev pub meet_lost : ℕ → Sent → Met → Met
@@ -60,38 +58,38 @@ newly_met r m queue bytes in_flight =
     }
 
 -- else: mark acked, queue its handle unless 0, and if in flight add its size to acked bytes and take it from the in-flight count
-abbrev pub meet_standing : Sent → Met → Result Met
+abbrev pub meet_standing : Sent → Met → Result Met Refusal
 meet_standing r m =
     queued r.handle m.queue λ q.
-    cond r.in_flight (reach (sum_of m.acked_bytes r.size) λ n. accepted (newly_met r m q n (m.in_flight - 1)))
-    (accepted (newly_met r m q m.acked_bytes m.in_flight))
+    cond r.in_flight (then (sum_of m.acked_bytes r.size) λ n. Ok (newly_met r m q n (m.in_flight - 1)))
+    (Ok (newly_met r m q m.acked_bytes m.in_flight))
 
 -- a record in the ranges; already acked: skip
-unfoldable pub meet_by : Bool → Time → ℕ → Sent → Met → Result Met
-meet_by true lost largest r m = accepted m
-meet_by false (At t) largest r m = accepted (meet_lost largest r m)
-meet_by false Unset largest r m = meet_standing r m
+unfoldable pub meet_by : Bool → Option Moment → ℕ → Sent → Met → Result Met Refusal
+meet_by true lost largest r m = Ok m
+meet_by false (Some t) largest r m = Ok (meet_lost largest r m)
+meet_by false None largest r m = meet_standing r m
 
 unfoldable pub keep_acked : Sent → Acked → Acked
 keep_acked r a = record { records = r ∷ a.records; met = a.met }
 
 -- all records, oldest first, each with whether a range holds it
-unfoldable pub meet_all : ℕ → List Bool → List Sent → Met → Result Acked
+unfoldable pub meet_all : ℕ → List Bool → List Sent → Met → Result Acked Refusal
 unfolding meet_by keep_acked marked
-meet_all largest [] l m = accepted (record { records = l; met = m })
-meet_all largest (b ∷ bs) [] m = accepted (record { records = []; met = m })
-meet_all largest (false ∷ bs) (r ∷ l) m = then (meet_all largest bs l m) λ a. accepted (keep_acked r a)
+meet_all largest [] l m = Ok (record { records = l; met = m })
+meet_all largest (b ∷ bs) [] m = Ok (record { records = []; met = m })
+meet_all largest (false ∷ bs) (r ∷ l) m = then (meet_all largest bs l m) λ a. Ok (keep_acked r a)
 meet_all largest (true ∷ bs) (r ∷ l) m =
     then (meet_by r.acked r.time_lost largest r m) λ n.
     then (meet_all largest bs l n) λ a.
-    accepted (keep_acked (marked r true r.time_lost) a)
+    Ok (keep_acked (marked r true r.time_lost) a)
 
 -- any spurious: packet threshold = max(old, min(distance, 20)), time threshold 5/4
-unfoldable pub reordered_by : Number → ℕ → Reordering → Reordering
-reordered_by Missing count o = record { pkt_thresh = o.pkt_thresh; time_thresh = o.time_thresh; lost_spurious_count = count }
-reordered_by (Is d) count o = record { pkt_thresh = max o.pkt_thresh (min d 20); time_thresh = FiveFourths; lost_spurious_count = count }
+unfoldable pub reordered_by : Option ℕ → ℕ → Reordering → Reordering
+reordered_by None count o = record { pkt_thresh = o.pkt_thresh; time_thresh = o.time_thresh; lost_spurious_count = count }
+reordered_by (Some d) count o = record { pkt_thresh = max o.pkt_thresh (min d 20); time_thresh = FiveFourths; lost_spurious_count = count }
 
 -- refusal 7: the spurious count
-unfoldable pub reordered : Number → ℕ → Reordering → Result Reordering
+unfoldable pub reordered : Option ℕ → ℕ → Reordering → Result Reordering Refusal
 unfolding reordered_by
-reordered distance spurious o = reach (sum_of o.lost_spurious_count spurious) λ n. accepted (reordered_by distance n o)
+reordered distance spurious o = then (sum_of o.lost_spurious_count spurious) λ n. Ok (reordered_by distance n o)

@@ -1,23 +1,22 @@
 -- A connection: three spaces and what they share. 01 'The sender's part'. Definitions only.
-use Rattle.std.specs.Prelude.{ℕ, ◌+◌, cond, ◌&&◌, List, [], ◌∷◌, eqb}
+use Rattle.std.specs.Prelude.{ℕ, ◌+◌, cond, ◌&&◌, List, [], ◌∷◌, eqb, Result, Ok, Option, None}
 use Rattle.arith.specs.Time.{moment}
 use Rattle.arith.specs.declared.round.TimeThreshold.TheVariants.{NineEighths}
 use Rattle.arith.specs.declared.time.Moment.{Moment}
-use Rattle.model.specs.Numbers.{Result, accepted, then, must, are_settings}
+use Rattle.arith.specs.Refusals.{then, must}
+use Rattle.model.specs.Numbers.{are_settings}
 use Rattle.model.specs.Rtt.{rtt_fresh}
 use Rattle.model.specs.Sent.{standing}
 use Rattle.model.specs.Timer.{timer_of}
 use Rattle.model.specs.Cubic.{congestion_fresh}
 use Rattle.model.specs.declared.Epoch.{Epoch}
 use Rattle.model.specs.declared.HandshakeStatus.{HandshakeStatus}
-use Rattle.model.specs.declared.Number.TheVariants.{Missing}
-use Rattle.model.specs.declared.Refusal.TheVariants.{Domain}
+use Rattle.arith.specs.declared.refusal.Refusal.TheVariants.{Domain}
 use Rattle.model.specs.declared.Sent.{Sent}
 use Rattle.model.specs.declared.Settings.{Settings}
 use Rattle.model.specs.declared.Shared.{Shared}
-use Rattle.model.specs.declared.Time.{Time}
-use Rattle.model.specs.declared.Time.TheVariants.{Unset}
 use Rattle.model.specs.declared.TimerFacts.{TimerFacts}
+use Rattle.arith.specs.declared.refusal.Refusal.{Refusal}
 
 pub record Space : Type 0 where
   -- oldest first
@@ -61,7 +60,7 @@ facts_of now status c =
       application = c.application.epoch;
     }
 
-abbrev pub with_timer : Time → Shared → Shared
+abbrev pub with_timer : Option Moment → Shared → Shared
 with_timer t s =
     record {
       clock = s.clock;
@@ -76,8 +75,8 @@ with_timer t s =
     }
 
 -- sets the timer
-unfoldable pub timed : Moment → HandshakeStatus → Connection → Result Connection
-timed now status c = then (timer_of (facts_of now status c)) λ t. accepted (with_shared (with_timer t c.shared) c)
+unfoldable pub timed : Moment → HandshakeStatus → Connection → Result Connection Refusal
+timed now status c = then (timer_of (facts_of now status c)) λ t. Ok (with_shared (with_timer t c.shared) c)
 
 -- sizes of those in flight and neither acked nor lost
 unfoldable pub outstanding : List Sent → ℕ
@@ -89,12 +88,12 @@ outstanding (r ∷ l) = cond (r.in_flight && standing r) (r.size + outstanding l
 unfoldable pub epoch_fresh : Epoch
 epoch_fresh =
     record {
-      time_of_last_ack_eliciting_packet = Unset;
-      largest_acked_packet = Missing;
-      loss_time = Unset;
+      time_of_last_ack_eliciting_packet = None;
+      largest_acked_packet = None;
+      loss_time = None;
       loss_probes = 0;
       in_flight_count = 0;
-      largest_sent_packet = Missing;
+      largest_sent_packet = None;
     }
 
 unfoldable pub space_fresh : Space
@@ -105,7 +104,7 @@ unfoldable pub shared_fresh : Settings → Shared
 shared_fresh s =
     record {
       clock = moment 0;
-      loss_timer = Unset;
+      loss_timer = None;
       pto_count = 0;
       rtt = rtt_fresh s;
       reordering = record { pkt_thresh = 3; time_thresh = NineEighths; lost_spurious_count = 0 };
@@ -116,5 +115,5 @@ shared_fresh s =
     }
 
 -- refusal 2: a setting outside its range
-unfoldable pub fresh : Settings → Result Connection
-fresh s = must (are_settings s) Domain (accepted (record { initial = space_fresh; handshake = space_fresh; application = space_fresh; shared = shared_fresh s }))
+unfoldable pub fresh : Settings → Result Connection Refusal
+fresh s = must (are_settings s) Domain (Ok (record { initial = space_fresh; handshake = space_fresh; application = space_fresh; shared = shared_fresh s }))

@@ -1,13 +1,12 @@
 -- What an event tells the congestion controller, move by move. The controller after an event is these moves' doing and nothing else's. 01 'CUBIC (001)'. Definitions only.
-use Rattle.std.specs.Prelude.{ℕ, Bool, true, false, List, [], ◌∷◌}
+use Rattle.std.specs.Prelude.{ℕ, Bool, true, false, List, [], ◌∷◌, Result, Ok, Option, Some, None}
 use Rattle.arith.specs.declared.time.Moment.{Moment}
 use Rattle.arith.specs.declared.time.Span.{Span}
-use Rattle.model.specs.Numbers.{Result, accepted, then}
+use Rattle.arith.specs.Refusals.{then}
 use Rattle.model.specs.Cubic.{rollback, congestion_event, count_lost, packet_acked, resized}
 use Rattle.model.specs.declared.Congestion.{Congestion}
 use Rattle.model.specs.declared.Sent.{Sent}
-use Rattle.model.specs.declared.Time.{Time}
-use Rattle.model.specs.declared.Time.TheVariants.{Unset, At}
+use Rattle.arith.specs.declared.refusal.Refusal.{Refusal}
 
 pub data Move : Type 0 where
   -- a spurious record in flight
@@ -21,17 +20,17 @@ pub data Move : Type 0 where
   -- a size change, from one datagram size to another
   resize : ℕ → ℕ → Move
 
-unfoldable pub moved : Move → Congestion → Result Congestion
-moved forgive g = accepted (rollback g)
+unfoldable pub moved : Move → Congestion → Result Congestion Refusal
+moved forgive g = Ok (rollback g)
 moved (lose now sent) g = congestion_event now sent g
 moved (count n) g = count_lost n g
 moved (ack now sent size limited min_rtt) g = packet_acked now sent size limited min_rtt g
 moved (resize old new) g = resized old new g
 
 -- one move after another
-unfoldable pub control : List Move → Congestion → Result Congestion
+unfoldable pub control : List Move → Congestion → Result Congestion Refusal
 unfolding moved
-control [] g = accepted g
+control [] g = Ok g
 control (m ∷ ms) g = then (moved m g) λ h. control ms h
 
 -- step 3: a spurious record in flight: rollback
@@ -40,9 +39,9 @@ forgive_by true = forgive ∷ []
 forgive_by false = []
 
 -- the last non-probe lost in flight decides the congestion event
-abbrev pub lose_by : Moment → Time → List Move
-lose_by now Unset = []
-lose_by now (At sent) = lose now sent ∷ []
+abbrev pub lose_by : Moment → Option Moment → List Move
+lose_by now None = []
+lose_by now (Some sent) = lose now sent ∷ []
 
 -- CUBIC per acked packet in order
 unfoldable pub ack_each : Moment → Bool → Span → List Sent → List Move

@@ -1,5 +1,5 @@
 -- 01 'CUBIC (001)'; RFC 9438. 64-bit floats: each operation rounds once, in the order written. Definitions only.
-use Rattle.std.specs.Prelude.{ℕ, ◌+◌, ◌-◌, ◌*◌, ◌/◌, max, Bool, false, cond, ◌&&◌, not, leb, ltb, eqb, Float}
+use Rattle.std.specs.Prelude.{ℕ, ◌+◌, ◌-◌, ◌*◌, ◌/◌, max, Bool, false, cond, ◌&&◌, not, leb, ltb, eqb, Float, Result, Ok, Err, Option, Some, None}
 use Rattle.std.specs.Float.{binary64}
 use Rattle.std.specs.Float.Ieee.{add, sub, mul, div, of_bits, lt, le}
 use Rattle.arith.specs.Whole.{sum_of, times_of, limit}
@@ -7,17 +7,16 @@ use Rattle.arith.specs.Time.{span_sum_of, since_of}
 use Rattle.arith.specs.Round.{float_of, truncated_of, seconds_of}
 use Rattle.arith.specs.Root.{nought}
 use Rattle.arith.specs.RootOf.{root_of}
-use Rattle.arith.specs.declared.root.Root.{Root}
 use Rattle.arith.specs.declared.time.Moment.{Moment}
 use Rattle.arith.specs.declared.time.Span.{Span}
-use Rattle.model.specs.Numbers.{Result, accepted, refused, then, reach, reach_span, reach_window, is_unset}
+use Rattle.arith.specs.Refusals.{then}
+use Rattle.model.specs.Numbers.{reach_window, is_unset}
 use Rattle.model.specs.declared.Congestion.{Congestion}
 use Rattle.model.specs.declared.Cubic.{Cubic}
 use Rattle.model.specs.declared.PriorState.{PriorState}
-use Rattle.model.specs.declared.Refusal.TheVariants.{Domain, TooLarge}
+use Rattle.arith.specs.declared.refusal.Refusal.TheVariants.{Domain, TooLarge}
 use Rattle.model.specs.declared.Settings.{Settings}
-use Rattle.model.specs.declared.Time.{Time}
-use Rattle.model.specs.declared.Time.TheVariants.{Unset, At}
+use Rattle.arith.specs.declared.refusal.Refusal.{Refusal}
 
 -- ---- constants of 001, by their bit patterns
 
@@ -75,9 +74,9 @@ smaller a b = cond (le a b) a b
 -- ---- recovery and rollback
 
 -- in recovery means sent <= recovery start
-unfoldable pub in_recovery : Time → Moment → Bool
-in_recovery Unset sent = false
-in_recovery (At start) sent = leb sent.0 start.0
+unfoldable pub in_recovery : Option Moment → Moment → Bool
+in_recovery None sent = false
+in_recovery (Some start) sent = leb sent.0 start.0
 
 -- what a loss keeps before it reduces, with the lost count at that moment
 unfoldable pub checkpoint : Congestion → PriorState
@@ -129,29 +128,25 @@ w_max_next window w_max =
     cond (lt (float_of window) w_max) (div binary64 (mul binary64 (float_of window) one_plus_beta) two) (float_of window)
 
 -- K, 0 where w_max is below the window; refusal 2 is the root's
-unfoldable pub k_by : Root → Result Float
-k_by (Root.Is r) = accepted r
-k_by (Root.Refused n) = refused Domain
-
-unfoldable pub k_next : Float → ℕ → ℕ → Result Float
-unfolding k_by k_argument
+unfoldable pub k_next : Float → ℕ → ℕ → Result Float Refusal
+unfolding k_argument
 k_next w_max window size =
-    cond (lt w_max (float_of window)) (accepted nought) (k_by (root_of (k_argument w_max (float_of window) (float_of size))))
+    cond (lt w_max (float_of window)) (Ok nought) (root_of (k_argument w_max (float_of window) (float_of size)))
 
 -- the window becomes 0.7 of it, at least two datagrams of the size set at the start. RFC 9438 section 4.6
-unfoldable pub reduce : Moment → Congestion → Result Congestion
+unfoldable pub reduce : Moment → Congestion → Result Congestion Refusal
 unfolding times_beta w_max_next k_next checkpoint
 reduce now g =
-    reach (times_of g.max_datagram_size 2) λ least.
+    then (times_of g.max_datagram_size 2) λ least.
     reach_window (max (times_beta g.congestion_window) least) λ window.
     let w_max = w_max_next g.congestion_window g.cubic.w_max in
     then (k_next w_max window g.max_datagram_size) λ k.
-    accepted
+    Ok
     (record {
       congestion_window = window;
       ssthresh = window;
       bytes_acked_sl = g.bytes_acked_sl;
-      congestion_recovery_start_time = At now;
+      congestion_recovery_start_time = Some now;
       lost_count = g.lost_count;
       cubic = record { k = k; w_max = w_max; w_est = float_of window; alpha_aimd = alpha_aimd; cwnd_inc = times_beta g.cubic.cwnd_inc };
       prior = checkpoint g;
@@ -160,15 +155,15 @@ reduce now g =
     })
 
 -- a loss not in recovery checkpoints, then reduces; this alone begins a recovery period. `sent` is when the packet that decides was sent
-unfoldable pub congestion_event : Moment → Moment → Congestion → Result Congestion
+unfoldable pub congestion_event : Moment → Moment → Congestion → Result Congestion Refusal
 unfolding in_recovery reduce
-congestion_event now sent g = cond (in_recovery g.congestion_recovery_start_time sent) (accepted g) (reduce now g)
+congestion_event now sent g = cond (in_recovery g.congestion_recovery_start_time sent) (Ok g) (reduce now g)
 
 -- lost count rises after that event
-unfoldable pub count_lost : ℕ → Congestion → Result Congestion
+unfoldable pub count_lost : ℕ → Congestion → Result Congestion Refusal
 count_lost n g =
-    reach (sum_of g.lost_count n) λ count.
-    accepted
+    then (sum_of g.lost_count n) λ count.
+    Ok
     (record {
       congestion_window = g.congestion_window;
       ssthresh = g.ssthresh;
@@ -183,7 +178,7 @@ count_lost n g =
 
 -- ---- growth
 
-abbrev pub grown : Congestion → ℕ → ℕ → Time → Cubic → Congestion
+abbrev pub grown : Congestion → ℕ → ℕ → Option Moment → Cubic → Congestion
 grown g window slow_start_bytes start cubic =
     record {
       congestion_window = window;
@@ -198,25 +193,25 @@ grown g window slow_start_bytes start cubic =
     }
 
 -- a whole datagram of bytes that wait moves the window on by one: the window and what still waits
-abbrev pub by_datagram : {A : Type 0} → ℕ → ℕ → ℕ → (ℕ → ℕ → Result A) → Result A
+abbrev pub by_datagram : {A : Type 0} → ℕ → ℕ → ℕ → (ℕ → ℕ → Result A Refusal) → Result A Refusal
 by_datagram size window waiting k =
     cond (leb size waiting) (reach_window (window + size) λ w. k w (waiting - size)) (k window waiting)
 
 -- slow start: acked bytes wait for a whole datagram
-unfoldable pub slow_start : ℕ → Congestion → Result Congestion
+unfoldable pub slow_start : ℕ → Congestion → Result Congestion Refusal
 slow_start acked g =
-    reach (sum_of g.bytes_acked_sl acked) λ waiting.
+    then (sum_of g.bytes_acked_sl acked) λ waiting.
     by_datagram g.max_datagram_size g.congestion_window waiting λ window left.
-    accepted (grown g window left g.congestion_recovery_start_time g.cubic)
+    Ok (grown g window left g.congestion_recovery_start_time g.cubic)
 
 -- the start of CUBIC's clock; where none is set, it is now and the window is w_max
-abbrev pub start_of : Time → Moment → Moment
-start_of Unset now = now
-start_of (At m) now = m
+abbrev pub start_of : Option Moment → Moment → Moment
+start_of None now = now
+start_of (Some m) now = m
 
-unfoldable pub begun : Time → ℕ → Cubic → Cubic
-begun (At m) window q = q
-begun Unset window q =
+unfoldable pub begun : Option Moment → ℕ → Cubic → Cubic
+begun (Some m) window q = q
+begun None window q =
     record { k = nought; w_max = float_of window; w_est = float_of window; alpha_aimd = alpha_aimd; cwnd_inc = q.cwnd_inc }
 
 -- target = curve(t + min RTT), clipped to [window, 1.5 × window]. RFC 9438 section 4.4
@@ -227,24 +222,24 @@ target_of q window size later =
     (smaller (larger (curve (seconds_of later) q.k q.w_max (float_of size)) (float_of window)) (mul binary64 (float_of window) one_and_a_half))
 
 -- w_est after its step, and alpha, 1 once w_est reached w_max; refusal 7: w_est
-unfoldable pub estimated : ℕ → ℕ → ℕ → Cubic → Result Cubic
+unfoldable pub estimated : ℕ → ℕ → ℕ → Cubic → Result Cubic Refusal
 unfolding w_est_step
 estimated acked window size q =
     let w = add binary64 q.w_est (w_est_step q.alpha_aimd (float_of acked) (float_of window) (float_of size)) in
-    cond (lt (float_of limit) w) (refused TooLarge)
-    (accepted
+    cond (lt (float_of limit) w) (Err TooLarge)
+    (Ok
     (record { k = q.k; w_max = q.w_max; w_est = w; alpha_aimd = cond (le q.w_max w) one q.alpha_aimd; cwnd_inc = q.cwnd_inc }))
 
 -- the window that CUBIC would have: w_est where the curve at t is below it, else a step towards the target
-unfoldable pub aimed_at : Cubic → ℕ → ℕ → Span → ℕ → (ℕ → Result Congestion) → Result Congestion
+unfoldable pub aimed_at : Cubic → ℕ → ℕ → Span → ℕ → (ℕ → Result Congestion Refusal) → Result Congestion Refusal
 unfolding curve
 aimed_at q window size t target k =
     cond (lt (curve (seconds_of t) q.k q.w_max (float_of size)) q.w_est)
     (k (max window (truncated_of q.w_est)))
-    (reach (times_of size (target - window)) λ step. reach (sum_of window (step / window)) k)
+    (then (times_of size (target - window)) λ step. then (sum_of window (step / window)) k)
 
 -- congestion avoidance; refusal 7: cwnd_inc, and t + min RTT
-unfoldable pub avoidance : Moment → ℕ → Span → Congestion → Result Congestion
+unfoldable pub avoidance : Moment → ℕ → Span → Congestion → Result Congestion Refusal
 unfolding begun target_of estimated aimed_at
 avoidance now acked min_rtt g =
     let window = g.congestion_window in
@@ -252,41 +247,41 @@ avoidance now acked min_rtt g =
     let start = start_of g.congestion_recovery_start_time now in
     let t = since_of now start in
     let q = begun g.congestion_recovery_start_time window g.cubic in
-    reach_span (span_sum_of t min_rtt) λ later.
+    then (span_sum_of t min_rtt) λ later.
     then (estimated acked window size q) λ e.
     aimed_at e window size t (target_of q window size later) λ aim.
-    reach (sum_of e.cwnd_inc (aim - window)) λ waiting.
+    then (sum_of e.cwnd_inc (aim - window)) λ waiting.
     by_datagram size window waiting λ next left.
-    accepted
-    (grown g next g.bytes_acked_sl (At start)
+    Ok
+    (grown g next g.bytes_acked_sl (Some start)
     (record { k = e.k; w_max = e.w_max; w_est = e.w_est; alpha_aimd = e.alpha_aimd; cwnd_inc = left }))
 
 -- ---- an acked packet
 
 -- new lost < max(window / size × 20 / 100, 2), strictly; new lost are those counted since the checkpoint
-unfoldable pub few_lost : Congestion → (Bool → Result Congestion) → Result Congestion
+unfoldable pub few_lost : Congestion → (Bool → Result Congestion Refusal) → Result Congestion Refusal
 few_lost g k =
-    reach (times_of (g.congestion_window / g.max_datagram_size) 20) λ n.
+    then (times_of (g.congestion_window / g.max_datagram_size) 20) λ n.
     k (ltb (g.lost_count - g.prior.lost_count) (max (n / 100) 2))
 
 -- slow start below the threshold, else congestion avoidance
-unfoldable pub grow : Moment → ℕ → Span → Congestion → Result Congestion
+unfoldable pub grow : Moment → ℕ → Span → Congestion → Result Congestion Refusal
 unfolding slow_start avoidance
 grow now acked min_rtt g = cond (ltb g.congestion_window g.ssthresh) (slow_start acked g) (avoidance now acked min_rtt g)
 
 -- on an ack outside recovery, not app-limited, start set: rollback if few were lost; success ends that packet's step
-unfoldable pub acked_outside : Moment → ℕ → Span → Congestion → Result Congestion
+unfoldable pub acked_outside : Moment → ℕ → Span → Congestion → Result Congestion Refusal
 unfolding few_lost grow rolls_back rolled_back
 acked_outside now acked min_rtt g =
     cond (is_unset g.congestion_recovery_start_time) (grow now acked min_rtt g)
-    (few_lost g λ few. cond (few && rolls_back g) (accepted (rolled_back g)) (grow now acked min_rtt g))
+    (few_lost g λ few. cond (few && rolls_back g) (Ok (rolled_back g)) (grow now acked min_rtt g))
 
 -- a packet in recovery, or while the application limits the sender, changes nothing
-unfoldable pub packet_acked : Moment → Moment → ℕ → Bool → Span → Congestion → Result Congestion
+unfoldable pub packet_acked : Moment → Moment → ℕ → Bool → Span → Congestion → Result Congestion Refusal
 unfolding in_recovery acked_outside
 packet_acked now sent acked limited min_rtt g =
-    cond (in_recovery g.congestion_recovery_start_time sent) (accepted g)
-    (cond limited (accepted g) (acked_outside now acked min_rtt g))
+    cond (in_recovery g.congestion_recovery_start_time sent) (Ok g)
+    (cond limited (Ok g) (acked_outside now acked min_rtt g))
 
 -- ---- the start, and a size change
 
@@ -297,19 +292,19 @@ congestion_fresh s =
       congestion_window = s.max_datagram_size * s.initial_window_packets;
       ssthresh = 18446744073709551615;
       bytes_acked_sl = 0;
-      congestion_recovery_start_time = Unset;
+      congestion_recovery_start_time = None;
       lost_count = 0;
       cubic = record { k = nought; w_max = nought; w_est = nought; alpha_aimd = nought; cwnd_inc = 0 };
-      prior = record { congestion_window = 0; ssthresh = 0; w_max = nought; k = nought; epoch_start = Unset; lost_count = 0 };
+      prior = record { congestion_window = 0; ssthresh = 0; w_max = nought; k = nought; epoch_start = None; lost_count = 0 };
       max_datagram_size = s.max_datagram_size;
       initial_window_packets = s.initial_window_packets;
     }
 
 -- a size change sets the window to new size × initial packets if it was old size × initial packets; CUBIC's size stays
-unfoldable pub resized : ℕ → ℕ → Congestion → Result Congestion
+unfoldable pub resized : ℕ → ℕ → Congestion → Result Congestion Refusal
 resized old new g =
-    reach (times_of old g.initial_window_packets) λ before.
+    then (times_of old g.initial_window_packets) λ before.
     cond (eqb g.congestion_window before)
-    (reach (times_of new g.initial_window_packets) λ n.
-    reach_window n λ window. accepted (grown g window g.bytes_acked_sl g.congestion_recovery_start_time g.cubic))
-    (accepted g)
+    (then (times_of new g.initial_window_packets) λ n.
+    reach_window n λ window. Ok (grown g window g.bytes_acked_sl g.congestion_recovery_start_time g.cubic))
+    (Ok g)

@@ -1,14 +1,15 @@
 -- What happened to a connection's congestion controller, move by move, as one who knows nothing of checkpoints sees it. Definitions only.
 -- A recovery period may begin and a rollback be tried in the middle of an event, so a history is of moves, not of events.
-use Rattle.std.specs.Prelude.{ℕ, ◌-◌, ◌*◌, ◌/◌, max, Bool, true, false, cond, ◌&&◌, ◌||◌, not, List, [], ◌∷◌, ◌++◌, ltb, eqb, Float}
-use Rattle.model.specs.Numbers.{Result, accepted, refused, is_unset}
+use Rattle.std.specs.Prelude.{ℕ, ◌-◌, ◌*◌, ◌/◌, max, Bool, true, false, cond, ◌&&◌, ◌||◌, not, List, [], ◌∷◌, ◌++◌, ltb, eqb, Float, Result, Ok, Err, Option}
+use Rattle.model.specs.Numbers.{is_unset}
 use Rattle.model.specs.Cubic.{in_recovery, rolls_back}
 use Rattle.model.specs.Control.{Move, forgive, lose, count, ack, resize, moved}
 use Rattle.model.specs.Connection.{Connection}
 use Rattle.model.specs.Events.{Step}
 use Rattle.model.specs.Run.{Event, Answer, step, after}
 use Rattle.model.specs.declared.Congestion.{Congestion}
-use Rattle.model.specs.declared.Time.{Time}
+use Rattle.arith.specs.declared.time.Moment.{Moment}
+use Rattle.arith.specs.declared.refusal.Refusal.{Refusal}
 
 -- window, slow-start threshold, w_max, K and recovery start
 pub record Seen : Type 0 where
@@ -16,7 +17,7 @@ pub record Seen : Type 0 where
   pub thresh : ℕ
   pub w_max : Float
   pub k : Float
-  pub start : Time
+  pub start : Option Moment
 
 unfoldable pub seen : Congestion → Seen
 seen g =
@@ -41,14 +42,14 @@ unfoldable pub entries_from : Congestion → List Move → List Entry
 entries_from g [] = []
 entries_from g (m ∷ ms) = made (moved m g) (λ h. entries_from h ms)
   where
-    made : Result Congestion → (Congestion → List Entry) → List Entry
-    made (accepted h) go = record { before = g; move = m; after = h } ∷ go h
-    made (refused n) go = []
+    made : Result Congestion Refusal → (Congestion → List Entry) → List Entry
+    made (Ok h) go = record { before = g; move = m; after = h } ∷ go h
+    made (Err n) go = []
 
 -- the moves of an event: a refused one makes none
-abbrev pub moves_by : Result (Step Answer) → List Move
-moves_by (accepted x) = x.moves
-moves_by (refused n) = []
+abbrev pub moves_by : Result (Step Answer) Refusal → List Move
+moves_by (Ok x) = x.moves
+moves_by (Err n) = []
 
 -- all moves of a list of calls, oldest first
 unfoldable pub moves_of : List Event → Connection → List Move

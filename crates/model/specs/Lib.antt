@@ -11,6 +11,7 @@ pub mod Connection
 pub mod Events
 pub mod Run
 pub mod Trace
+pub mod Coded
 pub mod History
 pub mod Promises
 pub mod Rehearsals

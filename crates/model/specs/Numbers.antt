@@ -1,66 +1,18 @@
--- 01 'The stage numbers': the ranges of numbers, the refusals, and what a refusal does to a chain of rules. Definitions only.
-use Rattle.std.specs.Prelude.{ℕ, ◌^◌, Bool, true, false, cond, ◌&&◌, leb, ltb}
+-- 01 'The stage numbers': the ranges of numbers, and which refusal spares them. Definitions only.
+use Rattle.std.specs.Prelude.{ℕ, ◌^◌, Bool, true, false, cond, ◌&&◌, leb, ltb, Result, Ok, Err, Option, Some, None}
 use Rattle.arith.specs.Whole.{limit}
 use Rattle.arith.specs.Time.{span}
 use Rattle.arith.specs.declared.time.Moment.{Moment}
 use Rattle.arith.specs.declared.time.Span.{Span}
-use Rattle.arith.specs.declared.time.Sum.{Sum}
-use Rattle.arith.specs.declared.time.Sum.TheVariants.{Fine, Over}
-use Rattle.arith.specs.declared.time.SpanSum.{SpanSum}
-use Rattle.arith.specs.declared.time.SpanSum.TheVariants.{SpanOf, TooLong}
-use Rattle.arith.specs.declared.time.MomentSum.{MomentSum}
-use Rattle.arith.specs.declared.time.MomentSum.TheVariants.{MomentOf, TooLate}
-use Rattle.model.specs.declared.Number.{Number}
-use Rattle.model.specs.declared.Number.TheVariants.{Missing, Is}
-use Rattle.model.specs.declared.Refusal.{Refusal}
-use Rattle.model.specs.declared.Refusal.TheVariants.{Clock, Domain, Stale, Ranges, Skipped, Full, TooLarge}
+use Rattle.arith.specs.declared.refusal.Refusal.{Refusal}
+use Rattle.arith.specs.declared.refusal.Refusal.TheVariants.{Clock, Domain, Stale, Ranges, Skipped, Full, TooLarge}
 use Rattle.model.specs.declared.Settings.{Settings}
-use Rattle.model.specs.declared.Time.{Time}
-use Rattle.model.specs.declared.Time.TheVariants.{Unset, At}
 
 -- ---- refusals
 
--- the refusal's number in 01's table; 0 is accepted
-unfoldable pub number_of : Refusal → ℕ
-number_of Clock = 1
-number_of Domain = 2
-number_of Stale = 3
-number_of Ranges = 4
-number_of Skipped = 5
-number_of Full = 6
-number_of TooLarge = 7
-
--- a rule's answer: what it comes to, or a refusal, which returns only its number
-pub data Result (A : Type 0) : Type 0 where
-  accepted : A → Result A
-  refused : Refusal → Result A
-
--- one rule after another: the first refusal stands
-abbrev pub then : {A B : Type 0} → Result A → (A → Result B) → Result B
-then (accepted a) k = k a
-then (refused n) k = refused n
-
--- goes on where the test holds
-abbrev pub must : {A : Type 0} → Bool → Refusal → Result A → Result A
-must true n r = r
-must false n r = refused n
-
--- refusal 7: a number, span or moment that the rules reach passes 2^53-1
-abbrev pub reach : {A : Type 0} → Sum → (ℕ → Result A) → Result A
-reach (Fine n) k = k n
-reach Over k = refused TooLarge
-
-abbrev pub reach_span : {A : Type 0} → SpanSum → (Span → Result A) → Result A
-reach_span (SpanOf s) k = k s
-reach_span TooLong k = refused TooLarge
-
-abbrev pub reach_moment : {A : Type 0} → MomentSum → (Moment → Result A) → Result A
-reach_moment (MomentOf m) k = k m
-reach_moment TooLate k = refused TooLarge
-
 -- refusal 7: the window passes 2^30
-abbrev pub reach_window : {A : Type 0} → ℕ → (ℕ → Result A) → Result A
-reach_window w k = cond (leb w (2 ^ 30)) (k w) (refused TooLarge)
+abbrev pub reach_window : {A : Type 0} → ℕ → (ℕ → Result A Refusal) → Result A Refusal
+reach_window w k = cond (leb w (2 ^ 30)) (k w) (Err TooLarge)
 
 -- ---- the numbers
 
@@ -104,10 +56,10 @@ are_settings s =
 -- ---- what may be unset
 
 -- a number, or 0 where none is stored
-abbrev pub or_zero : Number → ℕ
-or_zero Missing = 0
-or_zero (Is n) = n
+abbrev pub or_zero : Option ℕ → ℕ
+or_zero None = 0
+or_zero (Some n) = n
 
-abbrev pub is_unset : Time → Bool
-is_unset Unset = true
-is_unset (At m) = false
+abbrev pub is_unset : Option Moment → Bool
+is_unset None = true
+is_unset (Some m) = false

@@ -1,9 +1,8 @@
 -- The third demand: what a rollback restores. For every setting, every fresh connection and every list of calls, refused ones included. Definitions only.
 -- proofs/Promises.antt proves it.
-use Rattle.std.specs.Prelude.{◌≡◌, Bool, true, false, List, ◌∷◌, ◌++◌, ℕ, ◌≤◌, T}
+use Rattle.std.specs.Prelude.{◌≡◌, Bool, true, false, List, ◌∷◌, ◌++◌, ℕ, ◌≤◌, T, Ok}
 use Rattle.arith.specs.declared.time.Moment.{Moment}
 use Rattle.arith.specs.declared.time.Span.{Span}
-use Rattle.model.specs.Numbers.{accepted}
 use Rattle.model.specs.Control.{forgive, ack, control}
 use Rattle.model.specs.Cubic.{grow}
 use Rattle.model.specs.Connection.{Connection}
@@ -13,7 +12,7 @@ use Rattle.model.specs.declared.Settings.{Settings}
 
 pub record Promises (s : Settings) (c : Connection) (calls : List Event) : Type 0 where
   -- the history is the sender's own: its moves, one after another, give the connection's controller
-  pub own : control (moves_of calls c) c.shared.congestion ≡ accepted (run calls c).shared.congestion
+  pub own : control (moves_of calls c) c.shared.congestion ≡ Ok (run calls c).shared.congestion
   -- 'A rollback that succeeds puts window, slow-start threshold, w_max, K and recovery start back to what they were just before the latest recovery period began.'
   pub puts_back : (a : List Entry) (e : Entry) (b : List Entry) → history calls c ≡ a ++ (e ∷ b) → T (succeeds e.before e.move) →
       latest never a ≡ as' (seen e.after)
@@ -26,7 +25,7 @@ pub record Promises (s : Settings) (c : Connection) (calls : List Event) : Type 
   -- and asked for by an ack, the packet's step goes on as growth alone: the rollback has changed nothing
   pub goes_on : (a : List Entry) (e : Entry) (b : List Entry) (now sent : Moment) (size : ℕ) (limited : Bool) (min_rtt : Span) →
       history calls c ≡ a ++ (e ∷ b) → e.move ≡ ack now sent size limited min_rtt → asks e.before e.move ≡ true → succeeds e.before e.move ≡ false →
-      grow now size min_rtt e.before ≡ accepted e.after
+      grow now size min_rtt e.before ≡ Ok e.after
   -- only a period's beginning or a size change lowers the window
   pub lowers : (a : List Entry) (e : Entry) (b : List Entry) → history calls c ≡ a ++ (e ∷ b) → opens e.before e.move ≡ false → keeps_size e.move ≡ true →
       e.before.congestion_window ≤ e.after.congestion_window

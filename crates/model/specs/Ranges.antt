@@ -1,8 +1,6 @@
 -- 01's table, refusals 4 and 5; 'Acknowledgement (000)': ranges are half-open, ascending. A list of words: start, end, start, end, ... Definitions only.
-use Rattle.std.specs.Prelude.{ℕ, ◌+◌, ◌-◌, ◌^◌, max, Bool, true, false, ◌&&◌, ◌||◌, List, [], ◌∷◌, leb, ltb, length}
+use Rattle.std.specs.Prelude.{ℕ, ◌+◌, ◌-◌, ◌^◌, max, Bool, true, false, ◌&&◌, ◌||◌, List, [], ◌∷◌, leb, ltb, length, Option, Some, None}
 use Rattle.model.specs.Numbers.{is_number, or_zero}
-use Rattle.model.specs.declared.Number.{Number}
-use Rattle.model.specs.declared.Number.TheVariants.{Missing, Is}
 
 -- each start at least `least` and below its end, each end at most 2^62 and below the next start; no odd word
 unfoldable pub ascending : ℕ → List ℕ → Bool
@@ -23,14 +21,14 @@ hold (start ∷ []) x = false
 hold (start ∷ (end ∷ more)) x = (leb start x && ltb x end) || hold more x
 
 -- refusal 5: a range holds the skipped number
-abbrev pub hold_skipped : List ℕ → Number → Bool
-hold_skipped words Missing = false
-hold_skipped words (Is n) = hold words n
+abbrev pub hold_skipped : List ℕ → Option ℕ → Bool
+hold_skipped words None = false
+hold_skipped words (Some n) = hold words n
 
 -- refusal 2: the skipped number is a packet number, or none
-abbrev pub is_skipped : Number → Bool
-is_skipped Missing = true
-is_skipped (Is n) = is_number n
+abbrev pub is_skipped : Option ℕ → Bool
+is_skipped None = true
+is_skipped (Some n) = is_number n
 
 -- the last range's end
 unfoldable pub last_end : List ℕ → ℕ
@@ -40,5 +38,5 @@ last_end (start ∷ (end ∷ [])) = end
 last_end (start ∷ (end ∷ (s ∷ more))) = last_end (s ∷ more)
 
 -- largest for the spurious test = max(stored or 0, last range end - 1)
-unfoldable pub largest_for : Number → List ℕ → ℕ
+unfoldable pub largest_for : Option ℕ → List ℕ → ℕ
 largest_for stored words = max (or_zero stored) (last_end words - 1)

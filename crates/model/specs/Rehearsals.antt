@@ -1,5 +1,5 @@
 -- 01 'Rehearsals': every row marked P, as rows of a single table under one claim about the definitions. Times in nanoseconds.
-use Rattle.std.specs.Prelude.{ℕ, ◌+◌, ◌*◌, Bool, true, false, cond, ◌&&◌, not, List, [], ◌∷◌, ◌++◌, replicate, T, eqb}
+use Rattle.std.specs.Prelude.{ℕ, ◌+◌, ◌*◌, Bool, true, false, cond, ◌&&◌, not, List, [], ◌∷◌, ◌++◌, replicate, T, eqb, Result, Ok, Err, Option, Some, None, Float}
 use Rattle.model.specs.Trace.{replay, printed}
 use Rattle.std.specs.Float.{binary64}
 use Rattle.std.specs.Float.Ieee.{to_bits, of_bits, add, sub, mul, div, of_int, to_unsigned, lt, le, eq}
@@ -7,10 +7,10 @@ use Rattle.arith.specs.Whole.{within, sum_of, times_of}
 use Rattle.arith.specs.Time.{span, moment, span_sum_of, scaled_of, later_of}
 use Rattle.arith.specs.Round.{float_of, nearest, product_of, seconds_of}
 use Rattle.arith.specs.RootOf.{root_of}
-use Rattle.arith.specs.declared.root.Root.{Root}
 use Rattle.arith.specs.declared.round.TimeThreshold.TheVariants.{NineEighths}
 use Rattle.arith.specs.declared.time.Span.{Span}
-use Rattle.model.specs.Numbers.{Result, accepted, refused, then, on_clock, is_size, are_settings}
+use Rattle.arith.specs.Refusals.{then}
+use Rattle.model.specs.Numbers.{on_clock, is_size, are_settings}
 use Rattle.model.specs.Rtt.{rtt_fresh, rtt_update}
 use Rattle.model.specs.Sent.{sent_now, covered, drained}
 use Rattle.model.specs.Loss.{loss_delay, is_lost, detect}
@@ -25,12 +25,11 @@ use Rattle.model.specs.Run.{Event, sent, acked, step, after, run}
 use Rattle.model.specs.declared.Congestion.{Congestion}
 use Rattle.model.specs.declared.Epoch.{Epoch}
 use Rattle.model.specs.declared.HandshakeStatus.{HandshakeStatus}
-use Rattle.model.specs.declared.Number.TheVariants.{Missing}
 use Rattle.model.specs.declared.Packet.{Packet}
 use Rattle.model.specs.declared.Rtt.{Rtt}
 use Rattle.model.specs.declared.Settings.{Settings}
-use Rattle.model.specs.declared.Time.{Time}
-use Rattle.model.specs.declared.Time.TheVariants.{Unset, At}
+use Rattle.arith.specs.declared.time.Moment.{Moment}
+use Rattle.arith.specs.declared.refusal.Refusal.{Refusal}
 
 -- a sample: the round trip, the ack's delay, and whether the handshake is completed
 pub record Sample : Type 0 where
@@ -48,30 +47,30 @@ pub data Row : Type 0 where
   -- after these moves: window and w_max
   windows : List Move → ℕ → ℕ → Row
   -- the loss times of the three spaces, and the one that goes before PTO
-  earliest : Time → Time → Time → Time → Row
+  earliest : Option Moment → Option Moment → Option Moment → Option Moment → Row
   -- a root's argument, and the root
   root : ℕ → ℕ → Row
   -- a trace's bytes, and the text that its replay on a fresh connection prints
   prints : List ℕ → List ℕ → Row
   -- after these events on a fresh connection: window, bytes in flight and timer
-  shows : List Event → ℕ → ℕ → Time → Row
+  shows : List Event → ℕ → ℕ → Option Moment → Row
 
 -- the values that cases and replay use
 unfoldable pub settings : Settings
 settings = record { max_datagram_size = 1200; initial_window_packets = 10; initial_rtt = span 333000000; max_ack_delay = span 25000000 }
 
-unfoldable pub estimate : Rtt → List Sample → Result Rtt
+unfoldable pub estimate : Rtt → List Sample → Result Rtt Refusal
 unfolding rtt_update within sum_of times_of span_sum_of
-estimate r [] = accepted r
+estimate r [] = Ok r
 estimate r (s ∷ l) = then (rtt_update r (span s.rtt) (span s.delay) s.completed) λ q. estimate q l
 
-abbrev pub is_span : ℕ → Result Span → Bool
-is_span n (accepted s) = eqb s.0 n
-is_span n (refused k) = false
+abbrev pub is_span : ℕ → Result Span Refusal → Bool
+is_span n (Ok s) = eqb s.0 n
+is_span n (Err k) = false
 
-abbrev pub with_rtt : Result Rtt → (Rtt → Bool) → Bool
-with_rtt (accepted r) k = k r
-with_rtt (refused n) k = false
+abbrev pub with_rtt : Result Rtt Refusal → (Rtt → Bool) → Bool
+with_rtt (Ok r) k = k r
+with_rtt (Err n) k = false
 
 unfoldable pub packet : ℕ → Packet
 packet n = record { number = n; size = 1200; ack_eliciting = true; in_flight = true; has_data = true; is_pmtud_probe = false; handle = 0 }
@@ -80,39 +79,39 @@ abbrev pub same_bool : Bool → Bool → Bool
 same_bool true b = b
 same_bool false b = not b
 
-abbrev pub is_time : Time → Time → Bool
-is_time Unset Unset = true
-is_time Unset (At n) = false
-is_time (At m) Unset = false
-is_time (At m) (At n) = eqb m.0 n.0
+abbrev pub is_time : Option Moment → Option Moment → Bool
+is_time None None = true
+is_time None (Some n) = false
+is_time (Some m) None = false
+is_time (Some m) (Some n) = eqb m.0 n.0
 
-abbrev pub is_window : ℕ → ℕ → Result Congestion → Bool
-is_window window w_max (accepted g) = eqb g.congestion_window window && eqb (to_bits binary64 g.cubic.w_max) (to_bits binary64 (float_of w_max))
-is_window window w_max (refused n) = false
+abbrev pub is_window : ℕ → ℕ → Result Congestion Refusal → Bool
+is_window window w_max (Ok g) = eqb g.congestion_window window && eqb (to_bits binary64 g.cubic.w_max) (to_bits binary64 (float_of w_max))
+is_window window w_max (Err n) = false
 
-abbrev pub is_root : ℕ → Root → Bool
-is_root n (Root.Is r) = eqb (to_bits binary64 r) (to_bits binary64 (float_of n))
-is_root n (Root.Refused k) = false
+abbrev pub is_root : ℕ → Result Float Refusal → Bool
+is_root n (Ok r) = eqb (to_bits binary64 r) (to_bits binary64 (float_of n))
+is_root n (Err k) = false
 
 -- the window, the bytes in flight and the timer, as a line of the replay has them
-abbrev pub shown : ℕ → ℕ → Time → Connection → Bool
+abbrev pub shown : ℕ → ℕ → Option Moment → Connection → Bool
 shown window bytes timer c =
     eqb c.shared.congestion.congestion_window window && (eqb c.shared.bytes_in_flight bytes && is_time timer c.shared.loss_timer)
 
-unfoldable pub shows_from : Result Connection → List Event → ℕ → ℕ → Time → Bool
+unfoldable pub shows_from : Result Connection Refusal → List Event → ℕ → ℕ → Option Moment → Bool
 unfolding run
-shows_from (accepted c) l window bytes timer = shown window bytes timer (run l c)
-shows_from (refused n) l window bytes timer = false
+shows_from (Ok c) l window bytes timer = shown window bytes timer (run l c)
+shows_from (Err n) l window bytes timer = false
 
-abbrev pub epoch_with : Time → Epoch
+abbrev pub epoch_with : Option Moment → Epoch
 epoch_with t =
     record {
-      time_of_last_ack_eliciting_packet = Unset;
-      largest_acked_packet = Missing;
+      time_of_last_ack_eliciting_packet = None;
+      largest_acked_packet = None;
       loss_time = t;
       loss_probes = 0;
       in_flight_count = 0;
-      largest_sent_packet = Missing;
+      largest_sent_packet = None;
     }
 
 -- ---- the whole output: the trace's bytes, and the text that a replay prints
@@ -139,10 +138,10 @@ same_text [] (b ∷ l) = false
 same_text (a ∷ k) [] = false
 same_text (a ∷ k) (b ∷ l) = eqb a b && same_text k l
 
-unfoldable pub prints_from : Result Connection → List ℕ → List ℕ → Bool
+unfoldable pub prints_from : Result Connection Refusal → List ℕ → List ℕ → Bool
 unfolding replay printed
-prints_from (accepted c) bytes out = same_text (printed (replay bytes c)) out
-prints_from (refused n) bytes out = false
+prints_from (Ok c) bytes out = same_text (printed (replay bytes c)) out
+prints_from (Err n) bytes out = false
 
 unfoldable pub right : Row → Bool
 unfolding settings estimate rtt_fresh pto_of within sum_of times_of span_sum_of scaled_of later_of nearest product_of loss_delay is_lost sent_now packet control moved congestion_fresh congestion_event count_lost rollback packet_acked loss_time_and_space root_of to_bits of_bits add sub mul div of_int to_unsigned lt le eq seconds_of shows_from prints_from fresh space_fresh epoch_fresh shared_fresh run after step on_packet_sent sent_in_flight on_ack_received acknowledge acked_by acked_some sampled any_eliciting detect_lost_packets timed facts_of timer_of space_at with_space on_clock is_packet is_newer is_size are_ranges are_settings largest_for last_end covered meet_all reordered drained detect ack_each
@@ -193,7 +192,7 @@ unfolding packet
 sending = sent (moment 0) 2 (packet 0) status
 
 unfoldable pub acking : Event
-acking = acked (moment (ms 100)) 2 (0 ∷ 1 ∷ []) 0 status false Missing
+acking = acked (moment (ms 100)) 2 (0 ∷ 1 ∷ []) 0 status false None
 
 unfoldable pub table : List Row
 unfolding sending acking whole_trace whole_output
@@ -221,13 +220,13 @@ table =
     -- two new lost: none
     ∷ windows (then-more (second_loss 2) (ack_of 400)) 5880 7140
     -- Initial loss time set, Application unset: none
-    ∷ earliest (At (moment 5)) Unset Unset Unset
+    ∷ earliest (Some (moment 5)) None None None
     -- root of 8 is 2, of 0 is 0
     ∷ root 8 2
     ∷ root 0 0
     -- the whole output's lines: sent at 0, then acked at 100 ms
-    ∷ shows (sending ∷ []) 12000 1200 (At (moment 1024000000))
-    ∷ shows (sending ∷ acking ∷ []) 13200 0 Unset
+    ∷ shows (sending ∷ []) 12000 1200 (Some (moment 1024000000))
+    ∷ shows (sending ∷ acking ∷ []) 13200 0 None
     -- and its text, from the trace's bytes
     ∷ prints whole_trace whole_output
     ∷ []

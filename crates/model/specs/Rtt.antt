@@ -1,11 +1,12 @@
 -- 01 'RTT (002)'; RFC 9002 section 5. Definitions only.
-use Rattle.std.specs.Prelude.{ℕ, ◌-◌, ◌/◌, Bool, true, false, cond, leb}
+use Rattle.std.specs.Prelude.{ℕ, ◌-◌, ◌/◌, Bool, true, false, cond, leb, Result, Ok}
 use Rattle.arith.specs.Whole.{sum_of, times_of, gap_of}
 use Rattle.arith.specs.Time.{span, span_sum_of, longer_of, shorter_of}
 use Rattle.arith.specs.declared.time.Span.{Span}
-use Rattle.model.specs.Numbers.{Result, accepted, reach, reach_span}
+use Rattle.arith.specs.Refusals.{then}
 use Rattle.model.specs.declared.Rtt.{Rtt}
 use Rattle.model.specs.declared.Settings.{Settings}
+use Rattle.arith.specs.declared.refusal.Refusal.{Refusal}
 
 -- before a sample: latest 0, smoothed the initial RTT, rttvar half of it; min is the initial RTT, as 002 shows (DECISIONS, 'min before a sample')
 unfoldable pub rtt_fresh : Settings → Rtt
@@ -42,22 +43,22 @@ abbrev pub adjusted : Span → Span → Span → ℕ
 adjusted l delay edge = cond (leb edge.0 l.0) (l.0 - delay.0) l.0
 
 -- rttvar = (3·rttvar)/4 + |smoothed - adjusted|/4 with the old smoothed; each division rounds down
-abbrev pub rttvar_next : Rtt → ℕ → (ℕ → Result Rtt) → Result Rtt
-rttvar_next r a k = reach (times_of 3 r.rttvar.0) λ v. reach (sum_of (v / 4) (gap_of r.smoothed_rtt.0 a / 4)) k
+abbrev pub rttvar_next : Rtt → ℕ → (ℕ → Result Rtt Refusal) → Result Rtt Refusal
+rttvar_next r a k = then (times_of 3 r.rttvar.0) λ v. then (sum_of (v / 4) (gap_of r.smoothed_rtt.0 a / 4)) k
 
 -- smoothed = (7·smoothed)/8 + adjusted/8
-abbrev pub smoothed_next : Rtt → ℕ → (ℕ → Result Rtt) → Result Rtt
-smoothed_next r a k = reach (times_of 7 r.smoothed_rtt.0) λ s. reach (sum_of (s / 8) (a / 8)) k
+abbrev pub smoothed_next : Rtt → ℕ → (ℕ → Result Rtt Refusal) → Result Rtt Refusal
+smoothed_next r a k = then (times_of 7 r.smoothed_rtt.0) λ s. then (sum_of (s / 8) (a / 8)) k
 
 -- a later sample: min is the smallest, max the largest. RFC 9002 sections 5.2 and 5.3
-unfoldable pub rtt_later : Rtt → Span → Span → Result Rtt
+unfoldable pub rtt_later : Rtt → Span → Span → Result Rtt Refusal
 rtt_later r l delay =
     let least = shorter_of r.min_rtt l in
-    reach_span (span_sum_of least delay) λ edge.
+    then (span_sum_of least delay) λ edge.
     let a = adjusted l delay edge in
     rttvar_next r a λ v.
     smoothed_next r a λ s.
-    accepted
+    Ok
     (record {
       latest_rtt = l;
       min_rtt = least;
@@ -69,6 +70,6 @@ rtt_later r l delay =
     })
 
 -- the estimates after a sample L with an ack delay
-unfoldable pub rtt_update : Rtt → Span → Span → Bool → Result Rtt
+unfoldable pub rtt_update : Rtt → Span → Span → Bool → Result Rtt Refusal
 unfolding rtt_first rtt_later
-rtt_update r l delay completed = cond r.has_first_rtt_sample (rtt_later r l (capped r delay completed)) (accepted (rtt_first r l))
+rtt_update r l delay completed = cond r.has_first_rtt_sample (rtt_later r l (capped r delay completed)) (Ok (rtt_first r l))

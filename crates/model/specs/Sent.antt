@@ -1,14 +1,13 @@
 -- The records of a space, oldest first, and its queues. 01 'Acknowledgement (000)' 1 and 2. Definitions only.
-use Rattle.std.specs.Prelude.{ℕ, zero, suc, ◌+◌, ◌-◌, ◌/◌, Bool, true, false, cond, ◌&&◌, not, List, [], ◌∷◌, ◌++◌, ltb, eqb, length, drop, replicate}
+use Rattle.std.specs.Prelude.{ℕ, zero, suc, ◌+◌, ◌-◌, ◌/◌, Bool, true, false, cond, ◌&&◌, not, List, [], ◌∷◌, ◌++◌, ltb, eqb, length, drop, replicate, Result, Err, Option, Some, None}
 use Rattle.arith.specs.Time.{passed_by}
 use Rattle.arith.specs.declared.time.Moment.{Moment}
 use Rattle.arith.specs.declared.time.Span.{Span}
-use Rattle.model.specs.Numbers.{Result, refused, capacity, is_unset}
+use Rattle.model.specs.Numbers.{capacity, is_unset}
 use Rattle.model.specs.declared.Packet.{Packet}
-use Rattle.model.specs.declared.Refusal.TheVariants.{Full}
+use Rattle.arith.specs.declared.refusal.Refusal.TheVariants.{Full}
 use Rattle.model.specs.declared.Sent.{Sent}
-use Rattle.model.specs.declared.Time.{Time}
-use Rattle.model.specs.declared.Time.TheVariants.{Unset, At}
+use Rattle.arith.specs.declared.refusal.Refusal.{Refusal}
 
 -- ---- one record
 
@@ -25,11 +24,11 @@ sent_now now p =
       is_pmtud_probe = p.is_pmtud_probe;
       handle = p.handle;
       acked = false;
-      time_lost = Unset;
+      time_lost = None;
     }
 
 -- the record with its mark changed: acked, or lost at a moment
-unfoldable pub marked : Sent → Bool → Time → Sent
+unfoldable pub marked : Sent → Bool → Option Moment → Sent
 marked r acked lost =
     record {
       number = r.number;
@@ -51,9 +50,9 @@ standing r = not r.acked && is_unset r.time_lost
 -- ---- draining
 
 -- acked or lost; but one whose lost time is > now - smoothed stays, even if acked later; if now < smoothed, nothing lost is drained
-abbrev pub may_leave_by : Time → Bool → Moment → Span → Bool
-may_leave_by Unset acked now smoothed = acked
-may_leave_by (At lost) acked now smoothed = passed_by lost smoothed now
+abbrev pub may_leave_by : Option Moment → Bool → Moment → Span → Bool
+may_leave_by None acked now smoothed = acked
+may_leave_by (Some lost) acked now smoothed = passed_by lost smoothed now
 
 abbrev pub may_leave : Moment → Span → Sent → Bool
 may_leave now smoothed r = may_leave_by r.time_lost r.acked now smoothed
@@ -66,8 +65,8 @@ drained now smoothed (r ∷ l) = cond (may_leave now smoothed r) (drained now sm
 -- ---- queues of handles, last in first out: the newest stands last
 
 -- a handle is queued unless it is 0; refusal 6: a queue would pass 256 handles
-abbrev pub queued : {A : Type 0} → ℕ → List ℕ → (List ℕ → Result A) → Result A
-queued handle q k = cond (eqb handle 0) (k q) (cond (ltb (length q) capacity) (k (q ++ (handle ∷ []))) (refused Full))
+abbrev pub queued : {A : Type 0} → ℕ → List ℕ → (List ℕ → Result A Refusal) → Result A Refusal
+queued handle q k = cond (eqb handle 0) (k q) (cond (ltb (length q) capacity) (k (q ++ (handle ∷ []))) (Err Full))
 
 -- what is taken, 0 from an empty queue, and what is left
 unfoldable pub newest : List ℕ → ℕ

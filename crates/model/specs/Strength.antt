@@ -1,10 +1,10 @@
 -- 01 'Strength of wording': what the definitions shut out, as laws of each event over any connection: a sender that refuses all, a window that never
 -- moves, an event that does nothing, and invented lost or spurious counts. proofs/Strength.antt proves them. Definitions only.
-use Rattle.std.specs.Prelude.{◌≡◌, Bool, true, false, cond, ◌&&◌, ◌||◌, not, List, [], ◌∷◌, ◌++◌, map, ◌⊎◌, ℕ, ◌+◌, ◌-◌, ◌*◌, ◌^◌, ◌≤◌, ◌<◌, min, max, T, leb, ltb, eqb, length, drop, get_or}
+use Rattle.std.specs.Prelude.{◌≡◌, Bool, true, false, cond, ◌&&◌, ◌||◌, not, List, [], ◌∷◌, ◌++◌, map, ◌⊎◌, ℕ, ◌+◌, ◌-◌, ◌*◌, ◌^◌, ◌≤◌, ◌<◌, min, max, T, leb, ltb, eqb, length, drop, get_or, Result, Ok, Err, Option, Some, None}
 use Rattle.arith.specs.Whole.{limit}
 use Rattle.arith.specs.declared.time.Moment.{Moment}
 use Rattle.arith.specs.declared.time.Span.{Span}
-use Rattle.model.specs.Numbers.{Result, accepted, refused, or_zero, is_unset}
+use Rattle.model.specs.Numbers.{or_zero, is_unset}
 use Rattle.model.specs.Sent.{sent_now, marked, standing, drained, covered}
 use Rattle.model.specs.Loss.{loss_delay, is_lost}
 use Rattle.model.specs.Timer.{loss_time_and_space, timer_of}
@@ -15,14 +15,11 @@ use Rattle.model.specs.Run.{Event, sent, acked, timeout, discarded, size_change,
 use Rattle.model.specs.declared.Congestion.{Congestion}
 use Rattle.model.specs.declared.HandshakeStatus.{HandshakeStatus}
 use Rattle.model.specs.declared.Judge.{Judge}
-use Rattle.model.specs.declared.Number.{Number}
-use Rattle.model.specs.declared.Number.TheVariants.{Missing, Is}
 use Rattle.model.specs.declared.OnAckReceivedOutcome.{OnAckReceivedOutcome}
 use Rattle.model.specs.declared.OnLossDetectionTimeoutOutcome.{OnLossDetectionTimeoutOutcome}
 use Rattle.model.specs.declared.Packet.{Packet}
 use Rattle.model.specs.declared.Sent.{Sent}
-use Rattle.model.specs.declared.Time.{Time}
-use Rattle.model.specs.declared.Time.TheVariants.{Unset, At}
+use Rattle.arith.specs.declared.refusal.Refusal.{Refusal}
 
 -- ---- lists of records, without a word of the events
 
@@ -88,7 +85,7 @@ named j l = those (λ r. standing r && is_lost j r) (scanned j l)
 unfoldable pub fallen : Judge → List Sent → List Sent
 unfolding scanned
 fallen j l =
-    map (λ r. cond (standing r && is_lost j r) (marked r false (At j.now)) r) (scanned j l) ++ drop (length (scanned j l)) l
+    map (λ r. cond (standing r && is_lost j r) (marked r false (Some j.now)) r) (scanned j l) ++ drop (length (scanned j l)) l
 
 -- ---- spaces that an event does not name
 
@@ -111,9 +108,9 @@ outside n p =
     leb 3 n || ((ltb p.size 1 || ltb 65527 p.size) || (leb (2 ^ 62) p.number || (p.is_pmtud_probe && not p.in_flight)))
 
 -- 3: number not above the last sent in that space
-abbrev pub stale : Number → ℕ → Bool
-stale Missing number = false
-stale (Is last) number = leb number last
+abbrev pub stale : Option ℕ → ℕ → Bool
+stale None number = false
+stale (Some last) number = leb number last
 
 -- the run of packets that elicit no ack
 abbrev pub run_of : Packet → Connection → ℕ
@@ -125,9 +122,9 @@ sending now n p c =
     with_shared (shared_sent now (run_of p c) (c.shared.bytes_in_flight + p.size) c.shared)
     (with_space n (space_sent now p ((space_at n c).epoch.in_flight_count + 1) (space_at n c)) c)
 
-abbrev pub is_refused : {A : Type 0} → Result A → Bool
-is_refused (accepted a) = false
-is_refused (refused n) = true
+abbrev pub is_refused : {A : Type 0} → Result A Refusal → Bool
+is_refused (Ok a) = false
+is_refused (Err n) = true
 
 -- 7: a count or a sum that the rules reach passes 2^53-1, or one on the way to the timer
 abbrev pub overflows : Moment → ℕ → Packet → HandshakeStatus → Connection → Bool
@@ -152,7 +149,7 @@ pub record Sends (now : Moment) (n : ℕ) (p : Packet) (c d : Connection) : Type
   -- its record, and nothing else, comes last
   pub appended : (space_at n d).records ≡ (space_at n c).records ++ (sent_now now p ∷ [])
   pub clock : d.shared.clock ≡ now
-  pub largest : (space_at n d).epoch.largest_sent_packet ≡ Is p.number
+  pub largest : (space_at n d).epoch.largest_sent_packet ≡ Some p.number
   pub bytes : d.shared.bytes_in_flight ≡ c.shared.bytes_in_flight + cond p.in_flight p.size 0
   pub elsewhere : Elsewhere n c d
 
@@ -160,7 +157,7 @@ pub record Sends (now : Moment) (n : ℕ) (p : Packet) (c d : Connection) : Type
 pub record Detects (now : Moment) (n : ℕ) (l : List Sent) (acked_bytes : ℕ) (c d : Connection) (lost_packets lost_bytes : ℕ) : Type 0 where
   pub judge : Judge
   pub moment : judge.now ≡ now
-  pub delay : loss_delay d.shared.rtt d.shared.reordering.time_thresh ≡ accepted judge.delay
+  pub delay : loss_delay d.shared.rtt d.shared.reordering.time_thresh ≡ Ok judge.delay
   pub threshold : judge.threshold ≡ d.shared.reordering.pkt_thresh
   pub largest : judge.largest ≡ or_zero (space_at n d).epoch.largest_acked_packet
   -- a PMTUD probe counts in neither; lost bytes are of those in flight
@@ -232,9 +229,9 @@ pub record TimesOutProbe (c : Connection) (o : OnLossDetectionTimeoutOutcome) (d
   pub bytes : d.shared.bytes_in_flight ≡ c.shared.bytes_in_flight
   pub elsewhere : Elsewhere space c d
 
-abbrev pub TimesOutBy : Time → ℕ → Moment → Connection → OnLossDetectionTimeoutOutcome → Connection → Type 0
-TimesOutBy (At t) n now c o d = TimesOutLoss now n c o d
-TimesOutBy Unset n now c o d = TimesOutProbe c o d
+abbrev pub TimesOutBy : Option Moment → ℕ → Moment → Connection → OnLossDetectionTimeoutOutcome → Connection → Type 0
+TimesOutBy (Some t) n now c o d = TimesOutLoss now n c o d
+TimesOutBy None n now c o d = TimesOutProbe c o d
 
 pub record TimesOut (now : Moment) (c : Connection) (o : OnLossDetectionTimeoutOutcome) (d : Connection) : Type 0 where
   pub clock : d.shared.clock ≡ now
@@ -314,39 +311,39 @@ pub record Strength : Type 0 where
       refusal_of (on_packet_sent now n p status c) ≡ send_number now n p status c
   -- and accepted where none does
   pub send_accepted : (now : Moment) (n : ℕ) (p : Packet) (status : HandshakeStatus) (c : Connection) → send_number now n p status c ≡ 0 →
-      (x : Step ℕ) × (on_packet_sent now n p status c ≡ accepted x)
+      (x : Step ℕ) × (on_packet_sent now n p status c ≡ Ok x)
   -- takes and pings are refused outside the three spaces alone
   pub take_acked_refused : (n : ℕ) (c : Connection) → refusal_of (next_acked_frame n c) ≡ given (leb 3 n) 2 0
   pub take_lost_refused : (n : ℕ) (c : Connection) → refusal_of (next_lost_frame n c) ≡ given (leb 3 n) 2 0
   pub ping_refused : (n : ℕ) (c : Connection) → refusal_of (ping_sent n c) ≡ given (leb 3 n) 2 0
   -- what each accepted event does
   pub sends : (now : Moment) (n : ℕ) (p : Packet) (status : HandshakeStatus) (c : Connection) (x : Step ℕ) →
-      on_packet_sent now n p status c ≡ accepted x → Sends now n p c x.state
-  pub acknowledges : (now : Moment) (n : ℕ) (words : List ℕ) (delay : ℕ) (status : HandshakeStatus) (limited : Bool) (skipped : Number) (c : Connection)
+      on_packet_sent now n p status c ≡ Ok x → Sends now n p c x.state
+  pub acknowledges : (now : Moment) (n : ℕ) (words : List ℕ) (delay : ℕ) (status : HandshakeStatus) (limited : Bool) (skipped : Option ℕ) (c : Connection)
       (x : Step OnAckReceivedOutcome) →
-      on_ack_received now n words delay status limited skipped c ≡ accepted x → Acknowledges now n words c x.answer x.state
+      on_ack_received now n words delay status limited skipped c ≡ Ok x → Acknowledges now n words c x.answer x.state
   pub times_out : (now : Moment) (status : HandshakeStatus) (c : Connection) (x : Step OnLossDetectionTimeoutOutcome) →
-      on_loss_detection_timeout now status c ≡ accepted x → TimesOut now c x.answer x.state
+      on_loss_detection_timeout now status c ≡ Ok x → TimesOut now c x.answer x.state
   pub discards : (now : Moment) (n : ℕ) (status : HandshakeStatus) (c : Connection) (x : Step ℕ) →
-      on_space_discarded now n status c ≡ accepted x → Discards now n c x.state
-  pub resizes : (size : ℕ) (c : Connection) (x : Step ℕ) → on_size_change size c ≡ accepted x → Resizes size c x.state
-  pub takes_acked : (n : ℕ) (c : Connection) (x : Step ℕ) → next_acked_frame n c ≡ accepted x → TakesAcked n c x.answer x.state
-  pub takes_lost : (n : ℕ) (c : Connection) (x : Step ℕ) → next_lost_frame n c ≡ accepted x → TakesLost n c x.answer x.state
-  pub pings : (n : ℕ) (c : Connection) (x : Step ℕ) → ping_sent n c ≡ accepted x → Pings n c x.state
+      on_space_discarded now n status c ≡ Ok x → Discards now n c x.state
+  pub resizes : (size : ℕ) (c : Connection) (x : Step ℕ) → on_size_change size c ≡ Ok x → Resizes size c x.state
+  pub takes_acked : (n : ℕ) (c : Connection) (x : Step ℕ) → next_acked_frame n c ≡ Ok x → TakesAcked n c x.answer x.state
+  pub takes_lost : (n : ℕ) (c : Connection) (x : Step ℕ) → next_lost_frame n c ≡ Ok x → TakesLost n c x.answer x.state
+  pub pings : (n : ℕ) (c : Connection) (x : Step ℕ) → ping_sent n c ≡ Ok x → Pings n c x.state
   -- the stored counts rise by exactly what was lost, and by exactly the spurious losses
-  pub lost : (e : Event) (c : Connection) (x : Step Answer) → step e c ≡ accepted x →
+  pub lost : (e : Event) (c : Connection) (x : Step Answer) → step e c ≡ Ok x →
       x.state.shared.congestion.lost_count ≡ c.shared.congestion.lost_count + lost_by x.answer
-  pub spurious : (e : Event) (c : Connection) (x : Step Answer) → step e c ≡ accepted x →
+  pub spurious : (e : Event) (c : Connection) (x : Step Answer) → step e c ≡ Ok x →
       x.state.shared.reordering.lost_spurious_count ≡ c.shared.reordering.lost_spurious_count + spurious_by e c
   -- in slow start, before any loss, a whole datagram of acked bytes raises the window by a datagram
-  pub raises : (now sent : Moment) (bytes : ℕ) (min_rtt : Span) (g : Congestion) → g.congestion_recovery_start_time ≡ Unset →
+  pub raises : (now sent : Moment) (bytes : ℕ) (min_rtt : Span) (g : Congestion) → g.congestion_recovery_start_time ≡ None →
       g.congestion_window < g.ssthresh → g.max_datagram_size ≤ g.bytes_acked_sl + bytes →
       g.bytes_acked_sl + bytes ≤ limit → g.congestion_window + g.max_datagram_size ≤ 2 ^ 30 →
-      (h : Congestion) × (packet_acked now sent bytes false min_rtt g ≡ accepted h) × (h.congestion_window ≡ g.congestion_window + g.max_datagram_size)
+      (h : Congestion) × (packet_acked now sent bytes false min_rtt g ≡ Ok h) × (h.congestion_window ≡ g.congestion_window + g.max_datagram_size)
   -- a loss outside recovery sets it to 0.7 of itself, at least two datagrams
   pub reduces : (now sent : Moment) (g h : Congestion) → in_recovery g.congestion_recovery_start_time sent ≡ false →
-      congestion_event now sent g ≡ accepted h → h.congestion_window ≡ max (times_beta g.congestion_window) (g.max_datagram_size * 2)
+      congestion_event now sent g ≡ Ok h → h.congestion_window ≡ max (times_beta g.congestion_window) (g.max_datagram_size * 2)
   -- which is less, of a window above two datagrams
   pub lowers : (now sent : Moment) (g h : Congestion) → in_recovery g.congestion_recovery_start_time sent ≡ false →
-      congestion_event now sent g ≡ accepted h → g.max_datagram_size * 2 < g.congestion_window → g.congestion_window ≤ 2 ^ 30 →
+      congestion_event now sent g ≡ Ok h → g.max_datagram_size * 2 < g.congestion_window → g.congestion_window ≤ 2 ^ 30 →
       h.congestion_window < g.congestion_window

@@ -1,32 +1,33 @@
 -- 01 'Timer and PTO (000)'; RFC 9002 section 6.2. Definitions only.
-use Rattle.std.specs.Prelude.{ℕ, ◌-◌, ◌^◌, min, Bool, true, false, cond, ◌&&◌, ◌||◌, not, List, [], ◌∷◌, ltb, leb, eqb}
+use Rattle.std.specs.Prelude.{ℕ, ◌-◌, ◌^◌, min, Bool, true, false, cond, ◌&&◌, ◌||◌, not, List, [], ◌∷◌, ltb, leb, eqb, Result, Ok, Option, Some, None}
 use Rattle.arith.specs.Time.{span_sum_of, scaled_of, later_of, longer_of}
 use Rattle.arith.specs.declared.time.Span.{Span}
-use Rattle.model.specs.Numbers.{Result, accepted, then, reach_span, reach_moment, granularity, is_unset}
+use Rattle.arith.specs.Refusals.{then}
+use Rattle.model.specs.Numbers.{granularity, is_unset}
 use Rattle.model.specs.Sent.{standing, queued}
 use Rattle.model.specs.declared.Epoch.{Epoch}
 use Rattle.model.specs.declared.HandshakeStatus.{HandshakeStatus}
 use Rattle.model.specs.declared.Rtt.{Rtt}
 use Rattle.model.specs.declared.Sent.{Sent}
-use Rattle.model.specs.declared.Time.{Time}
-use Rattle.model.specs.declared.Time.TheVariants.{Unset, At}
 use Rattle.model.specs.declared.TimeAndSpace.{TimeAndSpace}
 use Rattle.model.specs.declared.TimerFacts.{TimerFacts}
+use Rattle.arith.specs.declared.time.Moment.{Moment}
+use Rattle.arith.specs.declared.refusal.Refusal.{Refusal}
 
 -- ---- which time wins
 
 -- an unset time counts as smaller than any set one (DIFFERENCES)
-unfoldable pub sooner : Time → Time → Bool
-sooner Unset Unset = false
-sooner Unset (At n) = true
-sooner (At m) Unset = false
-sooner (At m) (At n) = ltb m.0 n.0
+unfoldable pub sooner : Option Moment → Option Moment → Bool
+sooner None None = false
+sooner None (Some n) = true
+sooner (Some m) None = false
+sooner (Some m) (Some n) = ltb m.0 n.0
 
-abbrev pub of : Time → ℕ → TimeAndSpace
+abbrev pub of : Option Moment → ℕ → TimeAndSpace
 of t n = record { time = t; space = n }
 
 -- a later space's time wins if none stands yet or its time is smaller
-unfoldable pub better : TimeAndSpace → Time → ℕ → TimeAndSpace
+unfoldable pub better : TimeAndSpace → Option Moment → ℕ → TimeAndSpace
 unfolding sooner
 better best t n = cond (is_unset best.time || sooner t best.time) (of t n) best
 
@@ -39,48 +40,48 @@ loss_time_and_space initial handshake application =
 -- ---- PTO
 
 -- PTO = smoothed + max(4·rttvar, granularity). RFC 9002 section 6.2.1
-unfoldable pub pto_of : Rtt → Result Span
-pto_of r = reach_span (scaled_of 4 r.rttvar) λ v. reach_span (span_sum_of r.smoothed_rtt (longer_of v granularity)) accepted
+unfoldable pub pto_of : Rtt → Result Span Refusal
+pto_of r = then (scaled_of 4 r.rttvar) λ v. then (span_sum_of r.smoothed_rtt (longer_of v granularity)) Ok
 
 -- the lesser of 2^count and 2^32-1 (DIFFERENCES)
 unfoldable pub backoff : ℕ → ℕ
 backoff count = min (2 ^ count) 4294967295
 
 -- PTO, times the backoff
-unfoldable pub pto_backed : TimerFacts → Result Span
+unfoldable pub pto_backed : TimerFacts → Result Span Refusal
 unfolding pto_of backoff
-pto_backed f = then (pto_of f.rtt) λ p. reach_span (scaled_of (backoff f.pto_count) p) accepted
+pto_backed f = then (pto_of f.rtt) λ p. then (scaled_of (backoff f.pto_count) p) Ok
 
 -- Application adds max ack delay, multiplied alike
-unfoldable pub pto_application : TimerFacts → Span → Result Span
+unfoldable pub pto_application : TimerFacts → Span → Result Span Refusal
 unfolding backoff
 pto_application f pto =
-    reach_span (scaled_of (backoff f.pto_count) f.rtt.max_ack_delay) λ extra. reach_span (span_sum_of pto extra) accepted
+    then (scaled_of (backoff f.pto_count) f.rtt.max_ack_delay) λ extra. then (span_sum_of pto extra) Ok
 
 -- a space's time: from its last eliciting in-flight send
-unfoldable pub pto_from : Time → Span → Result Time
-pto_from Unset d = accepted Unset
-pto_from (At t) d = reach_moment (later_of t d) λ m. accepted (At m)
+unfoldable pub pto_from : Option Moment → Span → Result (Option Moment) Refusal
+pto_from None d = Ok None
+pto_from (Some t) d = then (later_of t d) λ m. Ok (Some m)
 
 -- a space that has packets in flight is tried
-unfoldable pub try_epoch : Epoch → ℕ → Span → TimeAndSpace → Result TimeAndSpace
+unfoldable pub try_epoch : Epoch → ℕ → Span → TimeAndSpace → Result TimeAndSpace Refusal
 unfolding pto_from better
 try_epoch e n d best =
-    cond (eqb e.in_flight_count 0) (accepted best)
-    (then (pto_from e.time_of_last_ack_eliciting_packet d) λ t. accepted (better best t n))
+    cond (eqb e.in_flight_count 0) (Ok best)
+    (then (pto_from e.time_of_last_ack_eliciting_packet d) λ t. Ok (better best t n))
 
 -- Application only once completed; otherwise the search ends there
-unfoldable pub try_application : TimerFacts → Span → TimeAndSpace → Result TimeAndSpace
+unfoldable pub try_application : TimerFacts → Span → TimeAndSpace → Result TimeAndSpace Refusal
 unfolding pto_application try_epoch
 try_application f d best =
-    cond (eqb f.application.in_flight_count 0 || not f.status.completed) (accepted best)
+    cond (eqb f.application.in_flight_count 0 || not f.status.completed) (Ok best)
     (then (pto_application f d) λ longer. try_epoch f.application 2 longer best)
 
 -- spaces with packets in flight are tried in order 0, 1, 2; if no space was tried, the space is 0
-unfoldable pub search : TimerFacts → Span → Result TimeAndSpace
+unfoldable pub search : TimerFacts → Span → Result TimeAndSpace Refusal
 unfolding try_epoch try_application
 search f d =
-    then (try_epoch f.initial 0 d (of Unset 0)) λ a.
+    then (try_epoch f.initial 0 d (of None 0)) λ a.
     then (try_epoch f.handshake 1 d a) λ b.
     try_application f d b
 
@@ -89,49 +90,49 @@ abbrev pub idle_space : HandshakeStatus → ℕ
 idle_space s = cond s.has_handshake_keys 1 0
 
 -- nothing in flight: now + PTO
-unfoldable pub pto_time_and_space : TimerFacts → Result TimeAndSpace
+unfoldable pub pto_time_and_space : TimerFacts → Result TimeAndSpace Refusal
 unfolding pto_backed search
 pto_time_and_space f =
     then (pto_backed f) λ d.
     cond (eqb f.bytes_in_flight 0)
-    (reach_moment (later_of f.now d) λ m. accepted (of (At m) (idle_space f.status)))
+    (then (later_of f.now d) λ m. Ok (of (Some m) (idle_space f.status)))
     (search f d)
 
 -- ---- the timer
 
 -- nothing in flight and peer verified: no timer; else PTO
-unfoldable pub pto_timer : TimerFacts → Result Time
+unfoldable pub pto_timer : TimerFacts → Result (Option Moment) Refusal
 unfolding pto_time_and_space
 pto_timer f =
-    cond (eqb f.bytes_in_flight 0 && f.status.peer_verified_address) (accepted Unset)
-    (then (pto_time_and_space f) λ c. accepted c.time)
+    cond (eqb f.bytes_in_flight 0 && f.status.peer_verified_address) (Ok None)
+    (then (pto_time_and_space f) λ c. Ok c.time)
 
 -- a loss time goes before PTO
-unfoldable pub timer_by : Time → TimerFacts → Result Time
+unfoldable pub timer_by : Option Moment → TimerFacts → Result (Option Moment) Refusal
 unfolding pto_timer
-timer_by (At m) f = accepted (At m)
-timer_by Unset f = pto_timer f
+timer_by (Some m) f = Ok (Some m)
+timer_by None f = pto_timer f
 
-unfoldable pub timer_of : TimerFacts → Result Time
+unfoldable pub timer_of : TimerFacts → Result (Option Moment) Refusal
 unfolding loss_time_and_space timer_by
 timer_of f = timer_by (loss_time_and_space f.initial f.handshake f.application).time f
 
 -- ---- a timeout without a loss time
 
 -- its space: the PTO search's, or with nothing in flight Handshake if keys are held, else Initial
-unfoldable pub probe_space : TimerFacts → Result ℕ
+unfoldable pub probe_space : TimerFacts → Result ℕ Refusal
 unfolding pto_time_and_space
-probe_space f = cond (eqb f.bytes_in_flight 0) (accepted (idle_space f.status)) (then (pto_time_and_space f) λ c. accepted c.space)
+probe_space f = cond (eqb f.bytes_in_flight 0) (Ok (idle_space f.status)) (then (pto_time_and_space f) λ c. Ok c.space)
 
 -- by whether the record is one of them; `go` goes on with the records after it
-unfoldable pub probe_by : Bool → ℕ → ℕ → List ℕ → (ℕ → List ℕ → Result (List ℕ)) → Result (List ℕ)
+unfoldable pub probe_by : Bool → ℕ → ℕ → List ℕ → (ℕ → List ℕ → Result (List ℕ) Refusal) → Result (List ℕ) Refusal
 probe_by true n handle q go = queued handle q λ p. go (n - 1) p
 probe_by false n handle q go = go n q
 
 -- handles of that many oldest data packets neither acked nor lost; a handle 0 counts but adds none
-unfoldable pub probe_handles : ℕ → List Sent → List ℕ → Result (List ℕ)
+unfoldable pub probe_handles : ℕ → List Sent → List ℕ → Result (List ℕ) Refusal
 unfolding probe_by
-probe_handles n [] q = accepted q
+probe_handles n [] q = Ok q
 probe_handles n (r ∷ l) q = probe_by (ltb 0 n && (r.has_data && standing r)) n r.handle q (λ m p. probe_handles m l p)
 
 -- ---- read-outs

@@ -1,15 +1,13 @@
 -- 01 'Replay and the host': a trace's bytes, the events that they say, and the lines that a replay prints. Definitions only.
-use Rattle.std.specs.Prelude.{ℕ, zero, suc, ◌+◌, ◌*◌, ◌/◌, ◌%◌, Bool, true, false, cond, ◌&&◌, List, [], ◌∷◌, ◌++◌, leb, ltb, eqb, length, take, drop}
+use Rattle.std.specs.Prelude.{ℕ, zero, suc, ◌+◌, ◌*◌, ◌/◌, ◌%◌, Bool, true, false, cond, ◌&&◌, List, [], ◌∷◌, ◌++◌, leb, ltb, eqb, length, take, drop, Result, Ok, Err, Option, Some, None}
 use Rattle.arith.specs.Time.{moment}
-use Rattle.model.specs.Numbers.{Result, accepted, refused}
 use Rattle.model.specs.Connection.{Connection}
 use Rattle.model.specs.Events.{Step}
 use Rattle.model.specs.Run.{Event, sent, acked, timeout, discarded, size_change, take_acked, take_lost, ping, Answer, step, refusal_of, state_by}
 use Rattle.model.specs.declared.HandshakeStatus.{HandshakeStatus}
-use Rattle.model.specs.declared.Number.{Number}
-use Rattle.model.specs.declared.Number.TheVariants.{Missing, Is}
-use Rattle.model.specs.declared.Time.{Time}
-use Rattle.model.specs.declared.Time.TheVariants.{Unset, At}
+use Rattle.model.specs.declared.Packet.{Packet}
+use Rattle.arith.specs.declared.time.Moment.{Moment}
+use Rattle.arith.specs.declared.refusal.Refusal.{Refusal}
 
 -- ---- numbers are big-endian
 
@@ -35,26 +33,29 @@ unfoldable pub body_length : ℕ → ℕ
 body_length kind =
     cond (eqb kind 1) 29 (cond (eqb kind 2) 16 (cond (eqb kind 3) 27 (cond (eqb kind 4) 9 (cond (eqb kind 5) 10 (cond (eqb kind 6) 2 (cond (leb 7 kind && leb kind 9) 1 0))))))
 
--- 1 sent: now 8, space 1, number 8, size 2, flags 1 (1 eliciting, 2 in flight, 4 data, 8 probe), handle 8, status 1
-unfoldable pub sent_of : List ℕ → Event
-unfolding big_endian
-sent_of b =
-    let flags = field b 19 1 in
-    sent (moment (field b 0 8)) (field b 8 1)
-    (record {
-      number = field b 9 8;
-      size = field b 17 2;
+-- flags: 1 eliciting, 2 in flight, 4 data, 8 probe; other bits are ignored
+unfoldable pub packet_of : ℕ → ℕ → ℕ → ℕ → Packet
+packet_of number size flags handle =
+    record {
+      number = number;
+      size = size;
       ack_eliciting = odd flags;
       in_flight = odd (flags / 2);
       has_data = odd (flags / 4);
       is_pmtud_probe = odd (flags / 8);
-      handle = field b 20 8;
-    })
+      handle = handle;
+    }
+
+-- 1 sent: now 8, space 1, number 8, size 2, flags 1 (1 eliciting, 2 in flight, 4 data, 8 probe), handle 8, status 1
+unfoldable pub sent_of : List ℕ → Event
+unfolding big_endian packet_of
+sent_of b =
+    sent (moment (field b 0 8)) (field b 8 1) (packet_of (field b 9 8) (field b 17 2) (field b 19 1) (field b 20 8))
     (status_of (field b 28 1))
 
 -- skipped 8 (all ones: none)
-unfoldable pub skipped_of : ℕ → Number
-skipped_of n = cond (eqb n 18446744073709551615) Missing (Is n)
+unfoldable pub skipped_of : ℕ → Option ℕ
+skipped_of n = cond (eqb n 18446744073709551615) None (Some n)
 
 -- 3 ack on held ranges: now 8, space 1, delay µs 8, status 1, limited 1, skipped 8
 unfoldable pub ack_of : List ℕ → List ℕ → Event
@@ -81,27 +82,27 @@ holding held b = cond (ltb (length held) 130) (held ++ (field b 0 8 ∷ (field b
 
 pub data Line : Type 0 where
   -- kind, refusal, window, in flight, timer or `-`
-  shows : ℕ → ℕ → ℕ → ℕ → Time → Line
+  shows : ℕ → ℕ → ℕ → ℕ → Option Moment → Line
   -- the offset of the kind byte
   bad_at : ℕ → Line
   -- accepted events but ranges
   end : ℕ → Line
   too_long : Line
 
-unfoldable pub line_of : ℕ → Result (Step Answer) → Connection → Line
+unfoldable pub line_of : ℕ → Result (Step Answer) Refusal → Connection → Line
 line_of kind r c = shows kind (refusal_of r) c.shared.congestion.congestion_window c.shared.bytes_in_flight c.shared.loss_timer
 
 -- an accepted event counts
-abbrev pub count_by : Result (Step Answer) → ℕ → ℕ
-count_by (accepted x) n = n + 1
-count_by (refused k) n = n
+abbrev pub count_by : Result (Step Answer) Refusal → ℕ → ℕ
+count_by (Ok x) n = n + 1
+count_by (Err k) n = n
 
 -- an ack empties the held ranges, a refused one too
 abbrev pub held_after : ℕ → List ℕ → List ℕ
 held_after kind held = cond (eqb kind 3) [] held
 
 -- one event's line, and what goes on from there
-unfoldable pub replayed : ℕ → Result (Step Answer) → Connection → ℕ → (Connection → ℕ → List Line) → List Line
+unfoldable pub replayed : ℕ → Result (Step Answer) Refusal → Connection → ℕ → (Connection → ℕ → List Line) → List Line
 unfolding line_of
 replayed kind r c n go = line_of kind r (state_by c r) ∷ go (state_by c r) (count_by r n)
 
@@ -142,9 +143,9 @@ digits (suc k) n l = cond (eqb (n / 10) 0) ((48 + n % 10) ∷ l) (digits k (n / 
 abbrev pub decimal : ℕ → List ℕ
 decimal n = digits 20 n []
 
-abbrev pub timer_text : Time → List ℕ
-timer_text Unset = 45 ∷ []
-timer_text (At m) = decimal m.0
+abbrev pub timer_text : Option Moment → List ℕ
+timer_text None = 45 ∷ []
+timer_text (Some m) = decimal m.0
 
 abbrev pub spaced : List ℕ → List ℕ → List ℕ
 spaced a b = a ++ (32 ∷ b)

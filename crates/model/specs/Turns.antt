@@ -1,11 +1,11 @@
 -- 01 'Strength of wording': two runs from a fresh connection with 01's settings, which the checker computes: every kind of event is accepted, and the window moves both ways.
-use Rattle.std.specs.Prelude.{Bool, true, false, cond, ◌&&◌, List, [], ◌∷◌, ℕ, ◌+◌, T, eqb}
+use Rattle.std.specs.Prelude.{Bool, true, false, cond, ◌&&◌, List, [], ◌∷◌, ℕ, ◌+◌, T, eqb, Result, Ok, Err, None}
 use Rattle.std.specs.Float.Ieee.{add, sub, mul, div, of_int, of_bits, to_unsigned, lt, le, eq}
 use Rattle.arith.specs.Whole.{within, sum_of, times_of}
 use Rattle.arith.specs.Time.{moment, span_sum_of, scaled_of, later_of}
 use Rattle.arith.specs.Round.{nearest, product_of, seconds_of}
 use Rattle.arith.specs.RootOf.{root_of}
-use Rattle.model.specs.Numbers.{Result, accepted, refused, on_clock, is_size, is_datagram_size, are_settings}
+use Rattle.model.specs.Numbers.{on_clock, is_size, is_datagram_size, are_settings}
 use Rattle.model.specs.Rtt.{rtt_fresh, rtt_update}
 use Rattle.model.specs.Ranges.{are_ranges, largest_for, last_end}
 use Rattle.model.specs.Sent.{sent_now, drained, newest, rest, covered}
@@ -18,8 +18,8 @@ use Rattle.model.specs.Connection.{Connection, space_at, with_space, facts_of, t
 use Rattle.model.specs.Events.{Step, is_newer, is_packet, sent_in_flight, on_packet_sent, detect_lost_packets, any_eliciting, sampled, outcome, acked_some, acked_by, acknowledge, on_ack_received, timeout_outcome, timeout_loss, probe_queue, timeout_probe, timeout_by, on_loss_detection_timeout, on_space_discarded, on_size_change, next_acked_frame, taken_lost, next_lost_frame, ping_sent}
 use Rattle.model.specs.Run.{Event, sent, acked, timeout, discarded, size_change, take_acked, take_lost, ping, Answer, done, of_ack, of_timeout, handle, step, after}
 use Rattle.model.specs.Rehearsals.{settings, status, ms, same_text}
-use Rattle.model.specs.declared.Number.TheVariants.{Missing}
 use Rattle.model.specs.declared.Packet.{Packet}
+use Rattle.arith.specs.declared.refusal.Refusal.{Refusal}
 
 -- an event that is accepted, its answer, and window and bytes in flight after it
 pub record Turn : Type 0 where
@@ -38,11 +38,11 @@ numbers_of (of_ack o) = 1 ∷ o.lost_packets ∷ o.lost_bytes ∷ o.acked_bytes 
 numbers_of (of_timeout o) = 2 ∷ o.lost_packets ∷ o.lost_bytes ∷ []
 numbers_of (handle h) = 3 ∷ h ∷ []
 
-abbrev pub is_turn : Turn → Result (Step Answer) → Bool
-is_turn t (accepted x) =
+abbrev pub is_turn : Turn → Result (Step Answer) Refusal → Bool
+is_turn t (Ok x) =
     same_text (numbers_of t.answer) (numbers_of x.answer)
     && (eqb x.state.shared.congestion.congestion_window t.window && eqb x.state.shared.bytes_in_flight t.in_flight)
-is_turn t (refused n) = false
+is_turn t (Err n) = false
 
 -- the place of the first wrong turn, from i on, or 0 where all are right
 unfoldable pub wrong_turn : ℕ → List Turn → Connection → ℕ
@@ -50,9 +50,9 @@ unfolding step after on_packet_sent sent_in_flight on_ack_received acknowledge a
 wrong_turn i [] c = 0
 wrong_turn i (t ∷ l) c = cond (is_turn t (step t.event c)) (wrong_turn (i + 1) l (after t.event c)) i
 
-abbrev pub wrong_from : Result Connection → List Turn → ℕ
-wrong_from (accepted c) l = wrong_turn 1 l c
-wrong_from (refused n) l = 1
+abbrev pub wrong_from : Result Connection Refusal → List Turn → ℕ
+wrong_from (Ok c) l = wrong_turn 1 l c
+wrong_from (Err n) l = 1
 
 -- a data packet of 1,200 bytes, in flight, whose handle is one more than its number
 abbrev pub payload : ℕ → Packet
@@ -62,7 +62,7 @@ abbrev pub send_at : ℕ → ℕ → Event
 send_at at n = sent (moment at) 2 (payload n) status
 
 abbrev pub ack_at : ℕ → ℕ → ℕ → Event
-ack_at at start end = acked (moment at) 2 (start ∷ end ∷ []) 0 status false Missing
+ack_at at start end = acked (moment at) 2 (start ∷ end ∷ []) 0 status false None
 
 -- in slow start an ack raises the window
 unfoldable pub upwards : List Turn

@@ -1,35 +1,14 @@
-// The values that the definitions and the code share. Types alone: what is done with them is said in specs/ and done in the crates above.
+// The values that the definitions and the code share, and how plain numbers encode them. What is done with them is said in specs/ and done in the crates above.
 // Names follow the Rust's where a reader will hold the two side by side.
 #![tactic(auto)]
+
+pub mod coded;
 
 use arith::round::TimeThreshold;
 use arith::time::{Moment, Span};
 
-// 01's refusals, 1 to 7 in this order; `number_of` in specs/Numbers.antt has the numbers.
-#[derive(Clone, Copy)]
-pub enum Refusal {
-    Clock,
-    Domain,
-    Stale,
-    Ranges,
-    Skipped,
-    Full,
-    TooLarge,
-}
-
-// A moment, or none.
-#[derive(Clone, Copy)]
-pub enum Time {
-    Unset,
-    At(Moment),
-}
-
-// A packet number, or none.
-#[derive(Clone, Copy)]
-pub enum Number {
-    Missing,
-    Is(u64),
-}
+// 2^62: packet numbers are below it, and ranges end there at the latest. 01 The stage numbers
+pub const NUMBERS: u64 = 1 << 62;
 
 // What a connection is set up with.
 #[derive(Clone, Copy)]
@@ -67,7 +46,7 @@ pub struct Sent {
     pub handle: u64,
     pub acked: bool,
     // set when it was declared lost, and kept if it is acked after all
-    pub time_lost: Time,
+    pub time_lost: Option<Moment>,
 }
 
 // A packet as the host hands it over to be sent.
@@ -91,6 +70,7 @@ pub struct Rtt {
     pub max_rtt: Span,
     pub smoothed_rtt: Span,
     pub rttvar: Span,
+    // no Option round the estimates: before a sample they are the initial RTT, which PTO and the loss delay read
     pub has_first_rtt_sample: bool,
     pub max_ack_delay: Span,
 }
@@ -112,7 +92,7 @@ pub struct PriorState {
     pub ssthresh: u64,
     pub w_max: f64,
     pub k: f64,
-    pub epoch_start: Time,
+    pub epoch_start: Option<Moment>,
     pub lost_count: u64,
 }
 
@@ -123,7 +103,7 @@ pub struct Congestion {
     pub congestion_window: u64,
     pub ssthresh: u64,
     pub bytes_acked_sl: u64,
-    pub congestion_recovery_start_time: Time,
+    pub congestion_recovery_start_time: Option<Moment>,
     pub lost_count: u64,
     pub cubic: Cubic,
     pub prior: PriorState,
@@ -135,12 +115,12 @@ pub struct Congestion {
 // What a packet number space keeps beside its records and queues.
 #[derive(Clone, Copy)]
 pub struct Epoch {
-    pub time_of_last_ack_eliciting_packet: Time,
-    pub largest_acked_packet: Number,
-    pub loss_time: Time,
+    pub time_of_last_ack_eliciting_packet: Option<Moment>,
+    pub largest_acked_packet: Option<u64>,
+    pub loss_time: Option<Moment>,
     pub loss_probes: u64,
     pub in_flight_count: u64,
-    pub largest_sent_packet: Number,
+    pub largest_sent_packet: Option<u64>,
 }
 
 // How much reordering is borne before a packet is lost, and the spurious losses that taught it.
@@ -156,7 +136,7 @@ pub struct Reordering {
 pub struct Shared {
     // the last accepted now
     pub clock: Moment,
-    pub loss_timer: Time,
+    pub loss_timer: Option<Moment>,
     pub pto_count: u64,
     pub rtt: Rtt,
     pub reordering: Reordering,
@@ -180,7 +160,7 @@ pub struct Judge {
 // A time and the space that it is of.
 #[derive(Clone, Copy)]
 pub struct TimeAndSpace {
-    pub time: Time,
+    pub time: Option<Moment>,
     pub space: u64,
 }
 

@@ -4,29 +4,27 @@ use mathlib.Core.Bool.{Bool, true, false}
 use Rattle.arith.specs.declared.round.TimeThreshold.{TimeThreshold}
 use Rattle.arith.specs.declared.round.TimeThreshold.TheVariants.{NineEighths, FiveFourths}
 use Rattle.model.specs.declared.Congestion.{Congestion}
-use Rattle.model.specs.declared.Number.{Number}
-use Rattle.model.specs.declared.Number.TheVariants.{Missing, Is}
 use Rattle.model.specs.declared.PriorState.{PriorState}
 use Rattle.model.specs.declared.Rtt.{Rtt}
-use Rattle.model.specs.declared.Time.{Time}
-use Rattle.model.specs.declared.Time.TheVariants.{Unset, At}
 use Rattle.connection.specs.declared.SpaceState.{SpaceState}
 use Rattle.connection.specs.declared.State.{State}
 use Rattle.plain.specs.Values.{to_bool, to_time, to_number, to_threshold, to_epoch, to_space, to_rtt, to_cubic, to_prior, to_congestion, to_shared, state_of, of_bool, of_time, of_number, of_threshold, of_space, of_rtt, of_cubic, of_prior, of_congestion, values_of}
+use Rattle.std.specs.Prelude.{Option, Some, None, ℕ}
+use Rattle.arith.specs.declared.time.Moment.{Moment}
 
 bool-back : (b : Bool) → to_bool (of_bool b) ≡ b
 bool-back true = refl
 bool-back false = refl
 
-time-back : (t : Time) → to_time (of_time t) ≡ t
+time-back : (t : Option Moment) → to_time (of_time t) ≡ t
 unfolding to_time of_time
-time-back Unset = refl
-time-back (At m) = refl
+time-back None = refl
+time-back (Some m) = refl
 
-number-back : (n : Number) → to_number (of_number n) ≡ n
+number-back : (n : Option ℕ) → to_number (of_number n) ≡ n
 unfolding to_number of_number
-number-back Missing = refl
-number-back (Is x) = refl
+number-back None = refl
+number-back (Some x) = refl
 
 threshold-back : (t : TimeThreshold) → to_threshold (of_threshold t) ≡ t
 unfolding to_threshold of_threshold

@@ -1,18 +1,14 @@
 -- What the plain numbers of a connection's values stand for, and how a state is written as such numbers. 01 'Replay and the host'. Definitions only.
-use Rattle.std.specs.Prelude.{ℕ, Bool, cond, not, eqb}
+use Rattle.std.specs.Prelude.{ℕ, Bool, cond, not, eqb, Option, Some, None}
 use Rattle.arith.specs.Time.{moment, span}
 use Rattle.arith.specs.declared.round.TimeThreshold.{TimeThreshold}
 use Rattle.arith.specs.declared.round.TimeThreshold.TheVariants.{NineEighths, FiveFourths}
 use Rattle.model.specs.declared.Congestion.{Congestion}
 use Rattle.model.specs.declared.Cubic.{Cubic}
 use Rattle.model.specs.declared.Epoch.{Epoch}
-use Rattle.model.specs.declared.Number.{Number}
-use Rattle.model.specs.declared.Number.TheVariants.{Missing, Is}
 use Rattle.model.specs.declared.PriorState.{PriorState}
 use Rattle.model.specs.declared.Rtt.{Rtt}
 use Rattle.model.specs.declared.Shared.{Shared}
-use Rattle.model.specs.declared.Time.{Time}
-use Rattle.model.specs.declared.Time.TheVariants.{Unset, At}
 use Rattle.connection.specs.declared.SpaceState.{SpaceState}
 use Rattle.connection.specs.declared.State.{State}
 use Rattle.plain.specs.declared.CongestionValues.{CongestionValues}
@@ -23,6 +19,7 @@ use Rattle.plain.specs.declared.RttValues.{RttValues}
 use Rattle.plain.specs.declared.SpaceValues.{SpaceValues}
 use Rattle.plain.specs.declared.TimeValue.{TimeValue}
 use Rattle.plain.specs.declared.Values.{Values}
+use Rattle.arith.specs.declared.time.Moment.{Moment}
 
 -- ---- what the numbers stand for
 
@@ -30,11 +27,11 @@ use Rattle.plain.specs.declared.Values.{Values}
 abbrev pub to_bool : ℕ → Bool
 to_bool n = not (eqb n 0)
 
-unfoldable pub to_time : TimeValue → Time
-to_time t = cond (to_bool t.set) (At (moment t.ns)) Unset
+unfoldable pub to_time : TimeValue → Option Moment
+to_time t = cond (to_bool t.set) (Some (moment t.ns)) None
 
-unfoldable pub to_number : NumberValue → Number
-to_number n = cond (to_bool n.set) (Is n.number) Missing
+unfoldable pub to_number : NumberValue → Option ℕ
+to_number n = cond (to_bool n.set) (Some n.number) None
 
 -- 0: 9/8, else 5/4
 unfoldable pub to_threshold : ℕ → TimeThreshold
@@ -126,13 +123,13 @@ abbrev pub of_bool : Bool → ℕ
 of_bool b = cond b 1 0
 
 -- what is unset is written as zeros
-unfoldable pub of_time : Time → TimeValue
-of_time Unset = record { set = 0; ns = 0 }
-of_time (At t) = record { set = 1; ns = t.0 }
+unfoldable pub of_time : Option Moment → TimeValue
+of_time None = record { set = 0; ns = 0 }
+of_time (Some t) = record { set = 1; ns = t.0 }
 
-unfoldable pub of_number : Number → NumberValue
-of_number Missing = record { set = 0; number = 0 }
-of_number (Is n) = record { set = 1; number = n }
+unfoldable pub of_number : Option ℕ → NumberValue
+of_number None = record { set = 0; number = 0 }
+of_number (Some n) = record { set = 1; number = n }
 
 unfoldable pub of_threshold : TimeThreshold → ℕ
 of_threshold NineEighths = 0

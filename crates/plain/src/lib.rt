@@ -3,11 +3,10 @@
 
 #![tactic(auto)]
 
-pub mod coded;
 pub mod opened;
 pub mod packed;
 
-// A moment in nanoseconds, or none where `set` is 0.
+// A moment in nanoseconds, or none where `set` is 0: C has no Option.
 #[repr(C)]
 #[derive(Clone, Copy)]
 pub struct TimeValue {
@@ -15,7 +14,7 @@ pub struct TimeValue {
     pub ns: u64,
 }
 
-// A packet number, or none where `set` is 0.
+// A packet number, or none where `set` is 0: C has no Option.
 #[repr(C)]
 #[derive(Clone, Copy)]
 pub struct NumberValue {

@@ -10,7 +10,8 @@ use Rattle.tracker.specs.Event.{ack_words}
 use Rattle.trace.specs.Says.{event_says}
 use Rattle.trace.specs.declared.Event.{Event}
 use Rattle.play.specs.Answers.{answered_says}
-use Rattle.play.specs.declared.Played.{Played}
+use Rattle.play.specs.declared.Told.{Told}
+use Rattle.connection.specs.declared.Answer.{Answer}
 
 -- the state
 abbrev pub place_of : Event → State → Connection → State
@@ -35,6 +36,6 @@ words_of (Event.TakeLost n) m s c = m
 words_of (Event.Ping n) m s c = m
 
 -- what `play` claims, of an event with the ranges held
-abbrev pub PlaysOne : Event → List ℕ → List ℕ → List ℕ → State → Played → Type 0
+abbrev pub PlaysOne : Event → List ℕ → List ℕ → List ℕ → State → Answer Told → Type 0
 PlaysOne e held m m' s r =
-    Does (step (event_says e held) (connection_of m s)) (answered_says r.answered) m m' s r.state (place_of e s) (words_of e m s)
+    Does (step (event_says e held) (connection_of m s)) (answered_says r.outcome) m m' s r.state (place_of e s) (words_of e m s)

@@ -1,107 +1,82 @@
 // The answers of the events, each of its own type, as one.
 ghost use Rattle.std.specs.Prelude.{◌≡◌};
 ghost use Rattle.model.specs.Run.{refusal_of};
-ghost use Rattle.play.specs.Answers.{answered_says, is_accepted, done_by, taken_by, acked_by, timed_out_by};
+ghost use Rattle.play.specs.Answers.{answered_says, is_accepted, mapped};
+ghost use Rattle.play.specs.declared.Told.{Told};
 
-use crate::{Answered, Played};
-use connection::{Answer, Outcome, Taken, Taking};
-use timeout::{TimeoutOutcome, TimingOut};
-use tracker::ack::{AckOutcome, Acking};
+use crate::Told;
+use arith::refusal::Refusal;
+use connection::Answer;
+use model::{OnAckReceivedOutcome, OnLossDetectionTimeoutOutcome};
 
-// An event that answers nothing but whether it was accepted.
-pub fn done(a: Answer) -> Played
-    ensures { result ≡ done_by a }
-{
-    let outcome = a.outcome;
-    let state = a.state;
-    match outcome {
-        Outcome::Accepted => Played {
-            answered: Answered::Done,
-            state: state,
-        },
-        Outcome::Refused(k) => Played {
-            answered: Answered::Refused(k),
-            state: state,
-        },
+// What an event of one kind answers, in the words that are the same for all.
+pub(crate) trait Tell: Copy {
+    ghost tells: { Self → Told };
+
+    fn tell(self) -> Told
+        ensures { result ≡ tells self };
+}
+
+// Nothing but that it was accepted.
+impl Tell for () {
+    ghost tells = { λ _. Told.Done };
+
+    fn tell(self) -> Told {
+        Told::Done
     }
 }
 
-// A handle that was taken.
-pub fn taken(a: Taking) -> Played
-    ensures { result ≡ taken_by a }
-{
-    let taken = a.taken;
-    let state = a.state;
-    match taken {
-        Taken::Handle(h) => Played {
-            answered: Answered::Handle(h),
-            state: state,
-        },
-        Taken::Refused(k) => Played {
-            answered: Answered::Refused(k),
-            state: state,
-        },
+impl Tell for OnAckReceivedOutcome {
+    ghost tells = { Told.Ack };
+
+    fn tell(self) -> Told {
+        Told::Ack(self)
     }
 }
 
-// What came of an acknowledgement.
-pub fn acked(a: Acking) -> Played
-    ensures { result ≡ acked_by a }
-{
-    let outcome = a.outcome;
-    let state = a.state;
-    match outcome {
-        AckOutcome::Accepted(o) => Played {
-            answered: Answered::Ack(o),
-            state: state,
-        },
-        AckOutcome::Refused(k) => Played {
-            answered: Answered::Refused(k),
-            state: state,
-        },
+impl Tell for OnLossDetectionTimeoutOutcome {
+    ghost tells = { Told.Timeout };
+
+    fn tell(self) -> Told {
+        Told::Timeout(self)
     }
 }
 
-// What came of a timeout.
-pub fn timed_out(a: TimingOut) -> Played
-    ensures { result ≡ timed_out_by a }
+// A handle.
+impl Tell for u64 {
+    ghost tells = { Told.Handle };
+
+    fn tell(self) -> Told {
+        Told::Handle(self)
+    }
+}
+
+// An event's own answer, as one that is the same for all.
+pub(crate) fn told<T: Tell>(a: Answer<T>) -> Answer<Told>
+    ensures { result ≡ record { outcome = mapped T.tells a.outcome; state = a.state } }
 {
-    let outcome = a.outcome;
-    let state = a.state;
-    match outcome {
-        TimeoutOutcome::Accepted(o) => Played {
-            answered: Answered::Timeout(o),
-            state: state,
+    Answer {
+        outcome: match a.outcome {
+            Ok(outcome) => Ok(outcome.tell()),
+            Err(k) => Err(k),
         },
-        TimeoutOutcome::Refused(k) => Played {
-            answered: Answered::Refused(k),
-            state: state,
-        },
+        state: a.state,
     }
 }
 
 // The refusal's number; 0 is accepted. 01 The stage numbers
-pub fn refusal_number(a: Answered) -> u64
+pub fn refusal_number(a: Result<Told, Refusal>) -> u64
     ensures { result ≡ refusal_of (answered_says a) }
 {
     match a {
-        Answered::Done => 0,
-        Answered::Ack(_) => 0,
-        Answered::Timeout(_) => 0,
-        Answered::Handle(_) => 0,
-        Answered::Refused(k) => trace::line::refusal_number(k),
+        Ok(_) => 0,
+        Err(k) => u64::from(u8::from(k)),
     }
 }
 
 // Whether the event counts as accepted. 01 Replay and the host
-pub fn is_accepted(a: Answered) -> bool
+pub fn is_accepted(a: Result<Told, Refusal>) -> bool
     ensures { result ≡ is_accepted (answered_says a) }
 {
-    match a {
-        Answered::Done => true,
-        Answered::Ack(_) => true,
-        Answered::Timeout(_) => true,
-        Answered::Handle(_) => true,
-        Answered::Refused(_) => false,
-    }
+    a.is_ok()
 }

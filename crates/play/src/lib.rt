@@ -12,35 +12,27 @@ use crate::events::{
     play_ack, play_discard, play_ping, play_sent, play_size, play_take_acked, play_take_lost,
     play_timeout,
 };
-use connection::State;
-use model::{OnAckReceivedOutcome, OnLossDetectionTimeoutOutcome, Refusal};
+use connection::{Answer, State};
+use model::{OnAckReceivedOutcome, OnLossDetectionTimeoutOutcome};
 use records::memory::Words;
 use trace::Event;
 
 pub mod answers;
 mod events;
 
-// What an event answered, of whatever kind it was.
+// What an accepted event answers, of whatever kind it was.
 #[derive(Clone, Copy)]
-pub enum Answered {
+pub enum Told {
     Done,
     Ack(OnAckReceivedOutcome),
     Timeout(OnLossDetectionTimeoutOutcome),
     // of a packet's frames; 0 from an empty queue
     Handle(u64),
-    Refused(Refusal),
-}
-
-// The answer, and the state after it; after a refusal it is the state before.
-#[derive(Clone, Copy)]
-pub struct Played {
-    pub answered: Answered,
-    pub state: State,
 }
 
 // An event, an ack's with the held ranges. 01 Replay and the host
-pub fn play(m: &mut Words, s: State, e: Event, ranges: &[u64]) -> Played
-    ensures { Does (step (event_says e ranges.now) (connection_of m.old s)) (answered_says result.answered) m.old m.new s result.state (place_of e s) (words_of e m.old s) }
+pub fn play(m: &mut Words, s: State, e: Event, ranges: &[u64]) -> Answer<Told>
+    ensures { Does (step (event_says e ranges.now) (connection_of m.old s)) (answered_says result.outcome) m.old m.new s result.state (place_of e s) (words_of e m.old s) }
 {
     match e {
         Event::Sent(x) => play_sent(m, s, x),

@@ -1,69 +1,59 @@
 -- What a turn of a replay claims, by what is found where the replay stands. 01 'Replay and the host'. Definitions only.
-use Rattle.std.specs.Prelude.{ℕ, ◌+◌, min, cond, List, ◌≡◌}
-use Rattle.model.specs.Numbers.{Result}
+use Rattle.std.specs.Prelude.{ℕ, ◌+◌, min, cond, ◌≡◌, Result, Ok}
 use Rattle.model.specs.Run.{Answer, step}
 use Rattle.connection.specs.View.{connection_of, Does}
-use Rattle.trace.specs.Held as trace
-use Rattle.trace.specs.Held.{firsts, words_with}
+use Rattle.trace.specs.Reading.{held_with, kept_by}
 use Rattle.trace.specs.Says.{event_says}
 use Rattle.trace.specs.declared.Event.{Event}
-use Rattle.trace.specs.declared.Event.TheVariants as event
 use Rattle.trace.specs.declared.Found.{Found}
 use Rattle.trace.specs.declared.Found.TheVariants as found
 use Rattle.trace.specs.declared.Range.{Range}
 use Rattle.play.specs.Answers.{answered_says, is_accepted}
 use Rattle.play.specs.Places.{place_of, words_of}
-use Rattle.play.specs.declared.Answered.{Answered}
-use Rattle.play.specs.declared.Answered.TheVariants as answered
+use Rattle.play.specs.declared.Told.{Told}
 use Rattle.playback.specs.declared.Met.{Met}
 use Rattle.playback.specs.declared.Met.TheVariants as met
 use Rattle.playback.specs.declared.Replay.{Replay}
-use Rattle.playback.specs.declared.Turned.{Turned}
+use Rattle.arith.specs.declared.refusal.Refusal.{Refusal}
 
 -- an accepted event counts, up to 2^64-1
-abbrev pub count_with : Result Answer → ℕ → ℕ
+abbrev pub count_with : Result Answer Refusal → ℕ → ℕ
 count_with o n = cond (is_accepted o) (min (n + 1) 18446744073709551615) n
 
--- how many words are held after an event
-abbrev pub words_after : Event → ℕ → ℕ
-words_after (event.Sent e) held = held
-words_after (event.Ack e) held = 0
-words_after (event.Timeout e) held = held
-words_after (event.Discard e) held = held
-words_after (event.Size n) held = held
-words_after (event.TakeAcked n) held = held
-words_after (event.TakeLost n) held = held
-words_after (event.Ping n) held = held
-
--- the answer to an event that was met
-abbrev pub answer_in : Met → Answered
-answer_in met.End = answered.Done
-answer_in met.Bad = answered.Done
-answer_in met.Held = answered.Done
-answer_in (met.Event kind a) = a
-
 -- nothing is done
-pub record Stays (what : Met) (r : Replay) (t : Turned) (ranges ranges' m m' : List ℕ) : Type 0 where
-  pub turned : t ≡ record { met = what; replay = r }
-  pub held : ranges' ≡ ranges
-  pub memory : m' ≡ m
+pub record Stays (what x : Met) (r r' : Replay) : Type 0 where
+  pub met : x ≡ what
+  pub replay : r' ≡ r
 
 -- a range is held, and the replay goes on behind it
-pub record Holds (x : Range) (next : ℕ) (r : Replay) (t : Turned) (ranges ranges' : List ℕ) : Type 0 where
-  pub turned : t ≡ record { met = met.Held; replay = record { at = next; held = trace.count_with r.held; accepted = r.accepted; state = r.state } }
-  pub held : ranges' ≡ words_with ranges r.held x
+abbrev pub holding : Range → ℕ → Replay → Replay
+holding g next r = record { at = next; held = held_with r.held g; accepted = r.accepted; state = r.state; words = r.words }
+
+pub record Holds (g : Range) (next : ℕ) (x : Met) (r r' : Replay) : Type 0 where
+  pub met : x ≡ met.Held
+  pub replay : r' ≡ holding g next r
 
 -- an event is played with the ranges held, and the replay goes on behind it
-pub record Answers (e : Event) (kind next : ℕ) (r : Replay) (t : Turned) (ranges m m' : List ℕ) : Type 0 where
-  pub did : Does (step (event_says e (firsts r.held ranges)) (connection_of m r.state)) (answered_says (answer_in t.met)) m m' r.state t.replay.state
-      (place_of e r.state) (words_of e m r.state)
-  pub met : t.met ≡ met.Event kind (answer_in t.met)
-  pub at : t.replay.at ≡ next
-  pub held : t.replay.held ≡ words_after e r.held
-  pub accepted : t.replay.accepted ≡ count_with (answered_says (answer_in t.met)) r.accepted
+pub record Plays (e : Event) (next : ℕ) (a : Result Told Refusal) (r r' : Replay) : Type 0 where
+  pub did : Does (step (event_says e r.held) (connection_of r.words r.state)) (answered_says a) r.words r'.words r.state r'.state
+      (place_of e r.state) (words_of e r.words r.state)
+  pub at : r'.at ≡ next
+  pub held : r'.held ≡ kept_by e r.held
+  pub accepted : r'.accepted ≡ count_with (answered_says a) r.accepted
 
-abbrev pub Turns : Found → ℕ → ℕ → Replay → Turned → List ℕ → List ℕ → List ℕ → List ℕ → Type 0
-Turns found.End kind next r t ranges ranges' m m' = Stays met.End r t ranges ranges' m m'
-Turns found.Bad kind next r t ranges ranges' m m' = Stays met.Bad r t ranges ranges' m m'
-Turns (found.Range x) kind next r t ranges ranges' m m' = Holds x next r t ranges ranges' × (m' ≡ m)
-Turns (found.Event e) kind next r t ranges ranges' m m' = Answers e kind next r t ranges m m' × (ranges' ≡ ranges)
+-- the answer to an event that was met
+abbrev pub answer_in : Met → Result Told Refusal
+answer_in met.End = Ok Told.Done
+answer_in met.Bad = Ok Told.Done
+answer_in met.Held = Ok Told.Done
+answer_in (met.Event kind a) = a
+
+pub record Answers (e : Event) (kind next : ℕ) (x : Met) (r r' : Replay) : Type 0 where
+  pub met : x ≡ met.Event kind (answer_in x)
+  pub plays : Plays e next (answer_in x) r r'
+
+abbrev pub Turns : Found → ℕ → ℕ → Met → Replay → Replay → Type 0
+Turns found.End kind next x r r' = Stays met.End x r r'
+Turns found.Bad kind next x r r' = Stays met.Bad x r r'
+Turns (found.Range g) kind next x r r' = Holds g next x r r'
+Turns (found.Event e) kind next x r r' = Answers e kind next x r r'

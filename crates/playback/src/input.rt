@@ -23,6 +23,7 @@ pub fn read_all<R: Read>(reader: &mut R, buf: &mut [u8]) -> io::Result<usize>
     ensures whole { IfOk result (λ n. n < length buf.new → IsAtEnd (R.remaining reader.new)) }
 {
     let mut n = 0;
+    // std's read_to_end claims too little of a failed read
     while n < buf.len() {
         let more = reader.read(&mut buf[n..])?;
         if more == 0 {
@@ -31,4 +32,13 @@ pub fn read_all<R: Read>(reader: &mut R, buf: &mut [u8]) -> io::Result<usize>
         n += more;
     }
     Ok(n)
+}
+
+// A trace's bytes, in a room that holds one byte more than the longest trace has.
+pub fn read_trace<'a, R: Read>(reader: &mut R, room: &'a mut [u8]) -> io::Result<&'a [u8]>
+    ensures bytes { IfOk result (λ trace. Consumes (R.remaining reader.old) (R.remaining reader.new) trace.now) }
+    ensures whole { IfOk result (λ trace. length trace.now < length room.old → IsAtEnd (R.remaining reader.new)) }
+{
+    let n = read_all(reader, room)?;
+    Ok(&room[..n])
 }

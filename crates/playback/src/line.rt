@@ -1,35 +1,55 @@
-// An event's line, and a line put behind others. 01 'Replay and the host'.
-ghost use Rattle.std.specs.Prelude.{List, ◌≡◌, ℕ, take};
+// An event's line, and what a turn has to tell, put behind what was told before. 01 'Replay and the host'.
+ghost use Rattle.std.specs.Prelude.{List, [], ◌∷◌, ◌≡◌, ℕ};
+ghost use Rattle.model.specs.Trace.{printed};
 ghost use Rattle.connection.specs.View.{connection_of};
-ghost use Rattle.trace.specs.Lines.{text_of};
 ghost use Rattle.trace.specs.Put.{Put};
-ghost use Rattle.playback.specs.Printed.{shown_of};
+ghost use Rattle.playback.specs.Printed.{shown_of, lines_of, is_last, Tells};
 
+use crate::{Met, Replay};
 use connection::State;
 use connection::readout::{bytes_in_flight, cwnd, loss_detection_timer};
-use trace::Text;
-use trace::line::shown;
-use trace::put::put_word;
+use play::answers::refusal_number;
+use trace::line::{bad_at, end, shown};
+use trace::text::Text;
 
 // An event's line, told from the state after it: kind, refusal, window, in flight, timer or `-`. 01 Replay and the host
-pub fn event_line(kind: u8, refusal: u64, s: State) -> Text
-    ensures { (m : List ℕ) → result ≡ text_of (shown_of kind refusal (connection_of m s)) }
+pub fn event_line(kind: u8, refusal: u64, s: State) -> Text<96>
+    ensures { (m : List ℕ) → result ≡ printed (shown_of kind refusal (connection_of m s) ∷ []) }
 {
-    let timer = loss_detection_timer(s);
-    shown(kind, refusal, cwnd(s), bytes_in_flight(s), timer)
+    shown(
+        kind,
+        refusal,
+        cwnd(s),
+        bytes_in_flight(s),
+        loss_detection_timer(s),
+    )
 }
 
-// The first n bytes.
-pub fn first(bytes: &[u8], n: usize) -> &[u8]
-    ensures { result.now ≡ take n bytes.now }
+fn is_last(met: Met) -> bool
+    ensures { result ≡ is_last met }
 {
-    if n < bytes.len() { &bytes[..n] } else { bytes }
+    matches!(met, Met::End | Met::Bad)
 }
 
-// The line put from a place on; the place after it. What does not fit is dropped.
-pub fn put_line(out: &mut [u8], at: usize, line: Text) -> usize
-    ensures { Put out.old at (take line.length line.bytes) out.new result }
+// The line of what was met at an offset, told from the replay after it; a range has none.
+#[tactic(auto, using(trace::proofs::Puts::put_none), unfolding(model::specs::Trace::printed))]
+fn put_met<const N: usize>(out: &mut Text<N>, met: Met, at: usize, r: &Replay)
+    ensures { Put N out.old (printed (lines_of met at r.now)) out.new }
 {
-    let bytes = line.bytes;
-    put_word(out, at, first(&bytes, line.length))
+    match met {
+        Met::End => out.put_word(end(r.accepted).as_bytes()),
+        Met::Bad => out.put_word(bad_at(at as u64).as_bytes()),
+        Met::Held => {}
+        Met::Event(kind, answered) => {
+            out.put_word(event_line(kind, refusal_number(answered), r.state).as_bytes())
+        }
+    }
+}
+
+// What was met, told; whether its line is the last.
+pub fn tell<const N: usize>(out: &mut Text<N>, met: Met, at: usize, r: &Replay) -> bool
+    ensures { Tells N met at r.now out.old out.new result }
+{
+    put_met(out, met, at, r);
+    is_last(met)
 }

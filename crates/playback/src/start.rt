@@ -1,19 +1,19 @@
-// Where a replay starts: a fresh connection with 01's values, and words and ranges with nothing in them.
-ghost use Rattle.std.specs.Prelude.{◌≡◌, replicate};
+// Where a replay starts: a fresh connection with 01's values, and nothing in its words.
+ghost use Rattle.std.specs.Prelude.{◌≡◌};
 ghost use Rattle.connection.specs.Answers.{Begins};
-ghost use Rattle.records.specs.View.{all_words};
-ghost use Rattle.trace.specs.Held.{held_words};
 ghost use Rattle.playback.specs.Start.{replay_settings, start_with};
 
-use crate::{Ranges, Replay};
+use crate::Replay;
+use arith::refusal::Refusal;
 use arith::time::Span;
 use connection::State;
-use connection::fresh::{Begun, fresh};
+use connection::fresh::fresh;
 use model::Settings;
-use records::memory::{WORDS, Words};
+use records::memory::WORDS;
+use trace::held::Held;
 
 // A fresh connection with 01's values: bytes, packets, nanoseconds. 01 The stage numbers
-pub fn begin() -> Begun
+pub fn begin() -> Result<State, Refusal>
     ensures { Begins replay_settings result }
 {
     fresh(Settings {
@@ -30,22 +30,9 @@ pub fn start_with(s: State) -> Replay
 {
     Replay {
         at: 0,
-        held: 0,
+        held: Held::new(),
         accepted: 0,
         state: s,
+        words: [0; WORDS],
     }
-}
-
-// Words with no records and no handles in them.
-pub fn no_words() -> Words
-    ensures { result ≡ replicate all_words 0 }
-{
-    [0; WORDS]
-}
-
-// Words with no ranges in them.
-pub fn no_ranges() -> Ranges
-    ensures { result ≡ replicate held_words 0 }
-{
-    [0; trace::held::WORDS]
 }

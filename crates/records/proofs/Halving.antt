@@ -100,11 +100,9 @@ number-ring m n head (suc len) (suc i) lt =
     let e : head + 1 + i ≡ head + suc i = omega arith in
     number-ring m n (head + 1) len i (omega arith) ∙ rw e
 
-pub place-memory : (m : List ℕ) (n head len x : ℕ) → place_of x (records_of m n head len) ≡ halved len (number_in m n head) x 0 len
+pub place_memory : (m : List ℕ) (n head len x : ℕ) {r : ℕ} → r ≡ halved len (number_in m n head) x 0 len → r ≡ place_of x (records_of m n head len)
 unfolding place_of
-place-memory m n head len x =
-    rw (length-ring (record_at m n) head len)
-    (halved-ext (number_at (records_of m n head len)) (number_in m n head) x len 0 len (λ i l r. number-ring m n head len i (omega arith)))
+place_memory m n head len x e = e ∙ sym (rw (length-ring (record_at m n) head len) (halved-ext (number_at (records_of m n head len)) (number_in m n head) x len 0 len (λ i l r. number-ring m n head len i (omega arith))))
 
 -- ---- among numbers that rise
 
@@ -167,12 +165,12 @@ place-first x l rising =
 
 -- ---- a turn of the recursion
 module _ (f : ℕ → ℕ) (x lo width : ℕ) where
-  pub halved-empty : width ≡ 0 → lo ≡ halved width f x lo width
-  halved-empty z = sym (none-at f x width lo width (omega arith))
+  pub halved_empty : width ≡ 0 → lo ≡ halved width f x lo width
+  halved_empty z = sym (none-at f x width lo width (omega arith))
 
   module _ {v r : ℕ} (some : width ≡ 0 → ⊥) (e : v ≡ f (lo + width / 2)) where
-    pub place-past : v < x → r ≡ halved (width - width / 2 - 1) f x (lo + width / 2 + 1) (width - width / 2 - 1) → r ≡ halved width f x lo width
-    place-past lt g = g ∙ sym (halved-past f x lo width (omega arith) (omega arith))
+    pub place_past : v < x → r ≡ halved (width - width / 2 - 1) f x (lo + width / 2 + 1) (width - width / 2 - 1) → r ≡ halved width f x lo width
+    place_past lt g = g ∙ sym (halved-past f x lo width (omega arith) (omega arith))
 
-    pub place-left : x ≤ v → r ≡ halved (width / 2) f x lo (width / 2) → r ≡ halved width f x lo width
-    place-left le g = g ∙ sym (halved-left f x lo width (omega arith) (omega arith))
+    pub place_left : x ≤ v → r ≡ halved (width / 2) f x lo (width / 2) → r ≡ halved width f x lo width
+    place_left le g = g ∙ sym (halved-left f x lo width (omega arith) (omega arith))

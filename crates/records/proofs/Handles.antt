@@ -9,46 +9,41 @@ use native.Mathlib.Omega.{arith}
 use borrow.Author.Tests.{eq-eqb, ne_eqb, lt-ltb}
 use lib.Dec.{eqb, ltb}
 use lib.ListN.{length, get_or, length-append}
-use Rattle.model.specs.Numbers.{Result, accepted, refused, capacity}
+use Rattle.model.specs.Numbers.{capacity}
 use Rattle.model.specs.Sent.{standing, queued}
 use Rattle.model.specs.Timer.{probe_by, probe_handles}
-use Rattle.model.specs.declared.Refusal.TheVariants.{Full}
+use Rattle.arith.specs.declared.refusal.Refusal.TheVariants.{Full}
 use Rattle.model.specs.declared.Sent.{Sent}
-use Rattle.records.specs.View.{all_words, at, record_by, record_at, records_of, queue_of, store_handle}
-use Rattle.records.specs.Probes.{awaits_of, unless_none, probes_of, store_all, Put, StoredFrom}
+use Rattle.records.specs.View.{all_words, at, record_by, record_at, records_of, queue_of, store_handle, store_handles}
+use Rattle.records.specs.Probes.{awaits_of, unless_none, probes_of, Put, StoredFrom}
 use Rattle.records.proofs.Rings.{ring-step, ring-end}
 use Rattle.records.proofs.Laws.{standing-mark, record-handle, handle-records, handle-queue, handle-space, length-store-handle, queue-push}
+use Rattle.std.proofs.Math.Bool.{and-false, and-true}
+use Rattle.std.specs.Prelude.{Result, Ok, Err}
+use Rattle.arith.specs.declared.refusal.Refusal.{Refusal}
 
 -- ---- one record
 awaits-words : (m : List ℕ) (n k : ℕ) → awaits_of (record_at m n k) ≡ (eqb (get_or m (at n k 3) 0 / 4 % 2) 1 && eqb (get_or m (at n k 5) 0) 0)
 unfolding awaits_of record_at record_by
 awaits-words m n k = ap (λ (b : Bool). eqb (get_or m (at n k 3) 0 / 4 % 2) 1 && b) (standing-mark m n k (get_or m (at n k 5) 0))
 
-neither : (b : Bool) → (b && false) ≡ false
-neither true = refl
-neither false = refl
+module _ (m : List ℕ) (n k : ℕ) {mark : ℕ} (e : mark ≡ get_or m (at n k 5) 0) where
+  pub awaits_marked : (mark ≡ 0 → ⊥) → false ≡ awaits_of (record_at m n k)
+  awaits_marked p = rw (awaits-words m n k, ← e, ne_eqb mark 0 p, and-false)
 
-both : (b : Bool) → (b && true) ≡ b
-both true = refl
-both false = refl
+  pub awaits_data : {flags : ℕ} → mark ≡ 0 → flags ≡ get_or m (at n k 3) 0 → eqb (flags / 4 % 2) 1 ≡ awaits_of (record_at m n k)
+  awaits_data p f = rw (awaits-words m n k, ← e, ← f, eq-eqb mark 0 p, and-true)
 
-module _ (m : List ℕ) (n k : ℕ) where
-  pub awaits-marked : (get_or m (at n k 5) 0 ≡ 0 → ⊥) → false ≡ awaits_of (record_at m n k)
-  awaits-marked p = rw (awaits-words m n k, ne_eqb (get_or m (at n k 5) 0) 0 p, neither)
+pub put_none : (m : List ℕ) (n w i handle : ℕ) → handle ≡ 0 → Put m n w i handle 0 m
+put_none m n w i handle z = record { count = rw (eq-eqb handle 0 z); memory = rw (eq-eqb handle 0 z) }
 
-  pub awaits-data : get_or m (at n k 5) 0 ≡ 0 → eqb (get_or m (at n k 3) 0 / 4 % 2) 1 ≡ awaits_of (record_at m n k)
-  awaits-data p = rw (awaits-words m n k, eq-eqb (get_or m (at n k 5) 0) 0 p, both)
+pub put_one : (m : List ℕ) (n w i handle : ℕ) {m' : List ℕ} → (handle ≡ 0 → ⊥) → m' ≡ store_handle m n w i handle → Put m n w i handle 1 m'
+put_one m n w i handle p e = record { count = rw (ne_eqb handle 0 p); memory = rw (ne_eqb handle 0 p) e }
 
-pub put-none : (m : List ℕ) (n w i handle : ℕ) → handle ≡ 0 → Put m n w i handle i m
-put-none m n w i handle z = record { next = rw (eq-eqb handle 0 z); memory = rw (eq-eqb handle 0 z) }
-
-pub put_one : (m : List ℕ) (n w i handle : ℕ) {m' : List ℕ} → (handle ≡ 0 → ⊥) → m' ≡ store_handle m n w i handle → Put m n w i handle (i + 1) m'
-put_one m n w i handle p e = record { next = rw (ne_eqb handle 0 p); memory = rw (ne_eqb handle 0 p) e }
-
-pub put_small : {m m' : List ℕ} {n w i handle r : ℕ} → Put m n w i handle r m' → r ≤ i + 1
-put_small {i = i} {handle = handle} {r = r} p = go (eqb handle 0) p.next
+pub put_small : {m m' : List ℕ} {n w i handle r : ℕ} → Put m n w i handle r m' → r ≤ 1
+put_small {handle = handle} {r = r} p = go (eqb handle 0) p.count
   where
-    go : (z : Bool) → r ≡ cond z i (i + 1) → r ≤ i + 1
+    go : (z : Bool) → r ≡ cond z 0 1 → r ≤ 1
     go true e = omega arith
     go false e = omega arith
 
@@ -71,10 +66,10 @@ probes-step probes m n h c pos = ap (probes_of probes) (ring-step (record_at m n
 -- what is left to be stored is stored to the same end
 pub record Left (m : List ℕ) (n first total i stored left : ℕ) (m₀ : List ℕ) (l : List ℕ) : Type 0 where
   pub count : stored + length (probes_of left (records_of m n (first + i) (total - i))) ≡ 0 + length l
-  pub memory : store_all m n 2 stored (probes_of left (records_of m n (first + i) (total - i))) ≡ store_all m₀ n 2 0 l
+  pub memory : store_handles m n 2 stored (probes_of left (records_of m n (first + i) (total - i))) ≡ store_handles m₀ n 2 0 l
 
-pub left-start : (m : List ℕ) (n first total probes : ℕ) → Left m n first total 0 0 probes m (probes_of probes (records_of m n first total))
-left-start m n first total probes =
+pub left_start : (m : List ℕ) (n first total probes : ℕ) → Left m n first total 0 0 probes m (probes_of probes (records_of m n first total))
+left_start m n first total probes =
     let a : first + 0 ≡ first = omega arith in
     let b : total - 0 ≡ total = omega arith in
     record { count = rw (a, b) refl; memory = rw (a, b) refl }
@@ -84,15 +79,15 @@ module _ (m : List ℕ) (n first total i stored left : ℕ) (m₀ : List ℕ) (l
   later x = probes_of (left - 1) (records_of x n (first + (i + 1)) (total - (i + 1)))
 
   nothing : probes_of left (records_of m n (first + i) (total - i)) ≡ [] → StoredFrom m₀ n 2 0 l stored m
-  unfolding store_all
+  unfolding store_handles
   nothing e =
       record {
         count = sym (add-zero stored) ∙ (rw e at inv.count);
         memory = rw e at inv.memory;
       }
 
-  pub left-none : left ≡ 0 → StoredFrom m₀ n 2 0 l stored m
-  left-none z = nothing (ap (λ (k : ℕ). probes_of k (records_of m n (first + i) (total - i))) z ∙ probes-none (records_of m n (first + i) (total - i)))
+  pub left_none : left ≡ 0 → StoredFrom m₀ n 2 0 l stored m
+  left_none z = nothing (ap (λ (k : ℕ). probes_of k (records_of m n (first + i) (total - i))) z ∙ probes-none (records_of m n (first + i) (total - i)))
 
   pub left_end : total ≤ i → StoredFrom m₀ n 2 0 l stored m
   left_end le = nothing (probes-end left m n (first + i) (total - i) (omega arith))
@@ -106,31 +101,31 @@ module _ (m : List ℕ) (n first total i stored left : ℕ) (m₀ : List ℕ) (l
         probes-step left m n (first + i) (total - i) (omega arith)
         ∙ rw (lt-ltb 0 left (omega arith), ← e, record-handle m n (first + i), x, y)
 
-    pub left-on : b ≡ false → Left m n first total (i + 1) stored left m₀ l
-    left-on f = record { count = rw (step, f) at inv.count; memory = rw (step, f) at inv.memory }
+    pub left_on : b ≡ false → Left m n first total (i + 1) stored left m₀ l
+    left_on f = record { count = rw (step, f) at inv.count; memory = rw (step, f) at inv.memory }
 
     module _ {handle r : ℕ} {m' : List ℕ} (t : b ≡ true) (h : handle ≡ get_or m (at n (first + i) 4) 0) (p : Put m n 2 stored handle r m') where
-      pub left-put : Left m' n first total (i + 1) r (left - 1) m₀ l
-      unfolding unless_none store_all
-      left-put =
+      pub left_put : Left m' n first total (i + 1) (stored + r) (left - 1) m₀ l
+      unfolding unless_none store_handles
+      left_put =
           let s : probes_of left (records_of m n (first + i) (total - i)) ≡ unless_none handle (later m) = step ∙ rw (t, h) in
-          go (eqb handle 0) p.next p.memory (rw s at inv.count) (rw s at inv.memory)
+          go (eqb handle 0) p.count p.memory (rw s at inv.count) (rw s at inv.memory)
         where
-          go : (z : Bool) → r ≡ cond z stored (stored + 1) → m' ≡ cond z m (store_handle m n 2 stored handle) →
+          go : (z : Bool) → r ≡ cond z 0 1 → m' ≡ cond z m (store_handle m n 2 stored handle) →
               stored + length (cond z (later m) (handle ∷ later m)) ≡ 0 + length l →
-              store_all m n 2 stored (cond z (later m) (handle ∷ later m)) ≡ store_all m₀ n 2 0 l →
-              Left m' n first total (i + 1) r (left - 1) m₀ l
-          go true a b c d = rw (a, b) (record { count = c; memory = d })
+              store_handles m n 2 stored (cond z (later m) (handle ∷ later m)) ≡ store_handles m₀ n 2 0 l →
+              Left m' n first total (i + 1) (stored + r) (left - 1) m₀ l
+          go true a b c d = let e : stored + r ≡ stored = omega arith in rw (e, b) (record { count = c; memory = d })
           go false a b c d =
               let q : later (store_handle m n 2 stored handle) ≡ later m = ap (probes_of (left - 1)) (handle-records m n 2 stored handle n (first + (i + 1)) (total - (i + 1))) in
               rw (a, b) (record { count = rw q (omega (arith, c)); memory = rw q d })
 
 -- ---- never too many
-queue-fits : (handle : ℕ) (q : List ℕ) (k : List ℕ → Result (List ℕ)) → length q < capacity → queued handle q k ≡ k (q ++ unless_none handle [])
+queue-fits : (handle : ℕ) (q : List ℕ) (k : List ℕ → Result (List ℕ) Refusal) → length q < capacity → queued handle q k ≡ k (q ++ unless_none handle [])
 unfolding unless_none
 queue-fits handle q k lt = go (eqb handle 0)
   where
-    go : (z : Bool) → cond z (k q) (cond (ltb (length q) capacity) (k (q ++ (handle ∷ []))) (refused Full)) ≡ k (q ++ cond z [] (handle ∷ []))
+    go : (z : Bool) → cond z (k q) (cond (ltb (length q) capacity) (k (q ++ (handle ∷ []))) (Err Full)) ≡ k (q ++ cond z [] (handle ∷ []))
     go true = ap k (sym (append-nil q))
     go false = rw (lt-ltb (length q) capacity lt)
 
@@ -150,7 +145,7 @@ unless-small handle = go (eqb handle 0)
     go true = omega arith
     go false = omega arith
 
-probe-all : (n : ℕ) (l : List Sent) (q : List ℕ) → length q + length l ≤ capacity → probe_handles n l q ≡ accepted (q ++ probes_of n l)
+probe-all : (n : ℕ) (l : List Sent) (q : List ℕ) → length q + length l ≤ capacity → probe_handles n l q ≡ Ok (q ++ probes_of n l)
 unfolding probe_handles probe_by probes_of awaits_of
 probe-all n [] q le = rw append-nil
 probe-all n (r ∷ l) q le =
@@ -159,18 +154,18 @@ probe-all n (r ∷ l) q le =
     (probe-all n l q (omega arith))
     (ltb 0 n && (r.has_data && standing r))
   where
-    go : probe_handles (n - 1) l (q ++ unless_none r.handle []) ≡ accepted ((q ++ unless_none r.handle []) ++ probes_of (n - 1) l) →
-        probe_handles n l q ≡ accepted (q ++ probes_of n l) →
+    go : probe_handles (n - 1) l (q ++ unless_none r.handle []) ≡ Ok ((q ++ unless_none r.handle []) ++ probes_of (n - 1) l) →
+        probe_handles n l q ≡ Ok (q ++ probes_of n l) →
         (b : Bool) →
-        probe_by b n r.handle q (λ m p. probe_handles m l p) ≡ accepted (q ++ cond b (unless_none r.handle (probes_of (n - 1) l)) (probes_of n l))
+        probe_by b n r.handle q (λ m p. probe_handles m l p) ≡ Ok (q ++ cond b (unless_none r.handle (probes_of (n - 1) l)) (probes_of n l))
     go a b true =
         queue-fits r.handle q (λ p. probe_handles (n - 1) l p) (omega arith)
         ∙ a
-        ∙ ap accepted (append_assoc q (unless_none r.handle []) (probes_of (n - 1) l) ∙ ap (λ (x : List ℕ). q ++ x) (unless-append r.handle (probes_of (n - 1) l)))
+        ∙ ap Ok (append_assoc q (unless_none r.handle []) (probes_of (n - 1) l) ∙ ap (λ (x : List ℕ). q ++ x) (unless-append r.handle (probes_of (n - 1) l)))
     go a b false = b
 
 -- model's chain of handles never refuses where the queue was empty
-pub probe-handles : (n : ℕ) (l : List Sent) → length l ≤ capacity → probe_handles n l [] ≡ accepted (probes_of n l)
+pub probe-handles : (n : ℕ) (l : List Sent) → length l ≤ capacity → probe_handles n l [] ≡ Ok (probes_of n l)
 probe-handles n l le = probe-all n l [] (omega arith)
 
 -- as many handles as records at most
@@ -186,33 +181,33 @@ length-probes n (r ∷ l) = go (length-probes (n - 1) l) (length-probes n l) (lt
     go a b false z = omega arith
 
 -- ---- what the stores leave
-pub length-store-all : (m : List ℕ) (n w i : ℕ) (l : List ℕ) → length (store_all m n w i l) ≡ length m
-unfolding store_all
-length-store-all m n w i [] = refl
-length-store-all m n w i (h ∷ l) = length-store-all (store_handle m n w i h) n w (i + 1) l ∙ length-store-handle m n w i h
+pub length-handles : (m : List ℕ) (n w i : ℕ) (l : List ℕ) → length (store_handles m n w i l) ≡ length m
+unfolding store_handles
+length-handles m n w i [] = refl
+length-handles m n w i (h ∷ l) = length-handles (store_handle m n w i h) n w (i + 1) l ∙ length-store-handle m n w i h
 
-pub store-all-records : (m : List ℕ) (n w i : ℕ) (l : List ℕ) (n' head len : ℕ) → records_of (store_all m n w i l) n' head len ≡ records_of m n' head len
-unfolding store_all
-store-all-records m n w i [] n' head len = refl
-store-all-records m n w i (h ∷ l) n' head len = store-all-records (store_handle m n w i h) n w (i + 1) l n' head len ∙ handle-records m n w i h n' head len
+pub handles-records : (m : List ℕ) (n w i : ℕ) (l : List ℕ) (n' head len : ℕ) → records_of (store_handles m n w i l) n' head len ≡ records_of m n' head len
+unfolding store_handles
+handles-records m n w i [] n' head len = refl
+handles-records m n w i (h ∷ l) n' head len = handles-records (store_handle m n w i h) n w (i + 1) l n' head len ∙ handle-records m n w i h n' head len
 
-pub store-all-other : (m : List ℕ) (n w i : ℕ) (l : List ℕ) (n' w' len : ℕ) → w' % 3 ≢ w % 3 → queue_of (store_all m n w i l) n' w' len ≡ queue_of m n' w' len
-unfolding store_all
-store-all-other m n w i [] n' w' len off = refl
-store-all-other m n w i (h ∷ l) n' w' len off = store-all-other (store_handle m n w i h) n w (i + 1) l n' w' len off ∙ handle-queue m n w i h n' w' len off
+pub handles-queue : (m : List ℕ) (n w i : ℕ) (l : List ℕ) (n' w' len : ℕ) → w' % 3 ≢ w % 3 → queue_of (store_handles m n w i l) n' w' len ≡ queue_of m n' w' len
+unfolding store_handles
+handles-queue m n w i [] n' w' len off = refl
+handles-queue m n w i (h ∷ l) n' w' len off = handles-queue (store_handle m n w i h) n w (i + 1) l n' w' len off ∙ handle-queue m n w i h n' w' len off
 
-pub store-all-space : (m : List ℕ) (n w i : ℕ) (l : List ℕ) (n' w' len : ℕ) → n' % 3 ≢ n % 3 → queue_of (store_all m n w i l) n' w' len ≡ queue_of m n' w' len
-unfolding store_all
-store-all-space m n w i [] n' w' len off = refl
-store-all-space m n w i (h ∷ l) n' w' len off = store-all-space (store_handle m n w i h) n w (i + 1) l n' w' len off ∙ handle-space m n w i h n' w' len off
+pub handles-space : (m : List ℕ) (n w i : ℕ) (l : List ℕ) (n' w' len : ℕ) → n' % 3 ≢ n % 3 → queue_of (store_handles m n w i l) n' w' len ≡ queue_of m n' w' len
+unfolding store_handles
+handles-space m n w i [] n' w' len off = refl
+handles-space m n w i (h ∷ l) n' w' len off = handles-space (store_handle m n w i h) n w (i + 1) l n' w' len off ∙ handle-space m n w i h n' w' len off
 
 -- the queue holds what it held, then the handles
-pub store-all-queue : (m : List ℕ) (n w i : ℕ) (l : List ℕ) → length m ≡ all_words → i + length l ≤ capacity → queue_of (store_all m n w i l) n w (i + length l) ≡ queue_of m n w i ++ l
-unfolding store_all
-store-all-queue m n w i [] full le = rw (add-zero, append-nil)
-store-all-queue m n w i (h ∷ l) full le =
+pub queue-handles : (m : List ℕ) (n w i : ℕ) (l : List ℕ) → length m ≡ all_words → i + length l ≤ capacity → queue_of (store_handles m n w i l) n w (i + length l) ≡ queue_of m n w i ++ l
+unfolding store_handles
+queue-handles m n w i [] full le = rw (add-zero, append-nil)
+queue-handles m n w i (h ∷ l) full le =
     let e : i + suc (length l) ≡ i + 1 + length l = omega arith in
     rw e
-    (store-all-queue (store_handle m n w i h) n w (i + 1) l (length-store-handle m n w i h ∙ full) (omega arith)
+    (queue-handles (store_handle m n w i h) n w (i + 1) l (length-store-handle m n w i h ∙ full) (omega arith)
     ∙ ap (λ (x : List ℕ). x ++ l) (queue-push m n w i h full (omega arith))
     ∙ append_assoc (queue_of m n w i) (h ∷ []) l)

@@ -10,17 +10,16 @@ use native.Mathlib.Omega.{arith}
 use borrow.Author.Tests.{ne_eqb}
 use lib.Dec.{eqb}
 use lib.ListN.{length, get_or, set, drop, length-set, length-append}
-use lib.Seq.{get_or-set_same, get_or-set_other, set_at, set-set}
+use lib.Seq.{get_or-set_same, get_or-set_other, set_at}
 use Rattle.arith.specs.Time.{moment}
 use Rattle.arith.specs.declared.time.Moment.{Moment}
 use Rattle.model.specs.Numbers.{capacity, is_unset}
 use Rattle.model.specs.Sent.{sent_now, marked, standing, newest, rest}
 use Rattle.model.specs.declared.Packet.{Packet}
 use Rattle.model.specs.declared.Sent.{Sent}
-use Rattle.model.specs.declared.Time.{Time}
-use Rattle.model.specs.declared.Time.TheVariants.{Unset, At}
 use Rattle.records.specs.View.{all_words, at, slot, bit, flags_of, acked_by, lost_by, record_by, record_at, records_of, queue_of, store_record, store_mark, store_handle}
 use Rattle.records.proofs.Rings.{places-apart, ring-ext, ring-mod, ring-step, ring-snoc, ring-around, ring-drop, length-ring}
+use Rattle.std.specs.Prelude.{Option, Some, None}
 
 -- ---- where words lie
 
@@ -59,13 +58,6 @@ slot-spaces n n' w w' i j p e = p (omega arith)
 
 -- ---- the length stays
 module _ (m : List ℕ) (n : ℕ) where
-  pub length-store-record : (k : ℕ) (time : Moment) (p : Packet) → length (store_record m n k time p) ≡ length m
-  unfolding store_record
-  length-store-record k time p = simp length-set
-
-  pub length-store-mark : (k mark : ℕ) → length (store_mark m n k mark) ≡ length m
-  length-store-mark k mark = length-set m (at n k 5) mark
-
   pub length-store-handle : (w i handle : ℕ) → length (store_handle m n w i handle) ≡ length m
   length-store-handle w i handle = length-set m (slot n w i) handle
 
@@ -272,18 +264,6 @@ module _ (m : List ℕ) (n k mark : ℕ) where
       let e : (j : ℕ) → j < 5 → get_or (set m (at n k 5) mark) (at n k j) 0 ≡ get_or m (at n k j) 0 = λ j lt. mark-other (at n k j) (at_words n k 5 j (λ e. omega arith)) in
       rw (get_or-set_same m (at n k 5) mark 0 l, e 0 (omega arith), e 1 (omega arith), e 2 (omega arith), e 3 (omega arith), e 4 (omega arith))
 
-  -- the records of another space stay, and so do all queues
-  pub mark-space : (n' head len : ℕ) → n' % 3 ≢ n % 3 → records_of (store_mark m n k mark) n' head len ≡ records_of m n' head len
-  mark-space n' head len off =
-      records-ext m (store_mark m n k mark) n' head len (λ k' j lt. mark-other (at n' k' j) (at-spaces n n' k k' 5 j off (omega arith) lt))
-
-  pub mark-queue : (n' w len : ℕ) → queue_of (store_mark m n k mark) n' w len ≡ queue_of m n' w len
-  mark-queue n' w len = queue-ext m (store_mark m n k mark) n' w len (λ i lt. mark-other (slot n' w i) (at-queue n n' k w i 5 (omega arith)))
-
-  -- the last mark stands
-  pub mark-twice : (mark' : ℕ) → store_mark (store_mark m n k mark) n k mark' ≡ store_mark m n k mark'
-  mark-twice mark' = set-set m (at n k 5) mark mark'
-
 -- a mark on the record at place i changes that one alone
 module _ (m : List ℕ) (n head i len mark : ℕ) (full : length m ≡ all_words) (lt : i < len) (fits : len ≤ capacity) where
   pub records-mark-around :
@@ -312,7 +292,7 @@ acked-mark mark =
     let b : (mark / 2 * 2 + 1) / 2 ≡ mark / 2 = omega arith in
     (rw a, rw b)
 
-pub lost-mark : (t : ℕ) → (acked_by (2 * (t + 1)) ≡ false) × (lost_by (2 * (t + 1)) ≡ At (moment t))
+pub lost-mark : (t : ℕ) → (acked_by (2 * (t + 1)) ≡ false) × (lost_by (2 * (t + 1)) ≡ Some (moment t))
 lost-mark t =
     let a : 2 * (t + 1) % 2 ≡ 0 = omega arith in
     let b : 2 * (t + 1) / 2 ≡ t + 1 = omega arith in
@@ -326,7 +306,7 @@ unfolding record_by marked
 record-acked m n k mark = rw ((acked-mark mark).0, (acked-mark mark).1)
 
 -- lost at t; a mark before it does not show
-pub record-lost : (m : List ℕ) (n k mark t : ℕ) → record_by m n k (2 * (t + 1)) ≡ marked (record_by m n k mark) false (At (moment t))
+pub record-lost : (m : List ℕ) (n k mark t : ℕ) → record_by m n k (2 * (t + 1)) ≡ marked (record_by m n k mark) false (Some (moment t))
 unfolding record_by marked
 record-lost m n k mark t = rw ((lost-mark t).0, (lost-mark t).1)
 
@@ -350,7 +330,7 @@ same_bit x y l k p = ⊎_elim
     clash : false ≡ true → x ≡ y
     clash e = absurd (let z : ◌≡◌ {A = ℕ} 0 1 = cc in let w : ⊥ = omega arith in w)
 
-same-lost : (x y : ℕ) → ◌≡◌ {A = Time} (cond (eqb x 0) Unset (At (moment (x - 1)))) (cond (eqb y 0) Unset (At (moment (y - 1)))) → x ≡ y
+same-lost : (x y : ℕ) → ◌≡◌ {A = Option Moment} (cond (eqb x 0) None (Some (moment (x - 1)))) (cond (eqb y 0) None (Some (moment (y - 1)))) → x ≡ y
 same-lost x y p = ⊎_elim
     (λ a. ⊎_elim (λ b. omega arith) (λ b. clash (rw (a, ne_eqb y 0 (λ e. omega arith)) at p)) (eq-zero-or-pos y))
     (λ a. ⊎_elim
@@ -359,10 +339,10 @@ same-lost x y p = ⊎_elim
     (eq-zero-or-pos y))
     (eq-zero-or-pos x)
   where
-    clash : {t : Moment} → Unset ≡ At t → x ≡ y
+    clash : {t : Moment} → None ≡ Some t → x ≡ y
     clash e = absurd (let z : ◌≡◌ {A = ℕ} 0 1 = cc in let w : ⊥ = omega arith in w)
 
-    same : At (moment (x - 1)) ≡ At (moment (y - 1)) → 0 < x → 0 < y → x ≡ y
+    same : Some (moment (x - 1)) ≡ Some (moment (y - 1)) → 0 < x → 0 < y → x ≡ y
     same e a b = let z : moment (x - 1) ≡ moment (y - 1) = cc in let d : x - 1 ≡ y - 1 = ap (λ (t : Moment). t.0) z in omega arith
 
 -- two marks that say the same are the same
@@ -415,15 +395,15 @@ rest-last (g ∷ []) h = refl
 rest-last (g ∷ (f ∷ q)) h = ap (λ (l : List ℕ). g ∷ l) (rest-last (f ∷ q) h)
 
 module _ (m : List ℕ) (n w len : ℕ) where
-  pub newest-none : len ≤ 0 → newest (queue_of m n w len) ≡ 0
+  pub newest_none : len ≡ 0 → 0 ≡ newest (queue_of m n w len)
   unfolding newest queue_of
-  newest-none z = let e : len ≡ zero = omega arith in ap (λ (k : ℕ). newest (queue_of m n w k)) e
+  newest_none z = ap (λ (k : ℕ). newest (queue_of m n w k)) (sym z)
 
-  pub newest-some : 0 < len → newest (queue_of m n w len) ≡ get_or m (slot n w (len - 1)) 0
+  pub newest_some : {h : ℕ} → 0 < len → h ≡ get_or m (slot n w (len - 1)) 0 → h ≡ newest (queue_of m n w len)
   unfolding queue_of
-  newest-some pos =
+  newest_some pos p =
       let e : len ≡ suc (len - 1) = omega arith in
-      ap (λ (k : ℕ). newest (queue_of m n w k)) e ∙ newest-last (queue_of m n w (len - 1)) (get_or m (slot n w (len - 1)) 0)
+      p ∙ sym (ap (λ (k : ℕ). newest (queue_of m n w k)) e ∙ newest-last (queue_of m n w (len - 1)) (get_or m (slot n w (len - 1)) 0))
 
   pub rest-queue : rest (queue_of m n w len) ≡ queue_of m n w (len - 1)
   unfolding rest queue_of

@@ -3,7 +3,7 @@
 use Rattle.std.specs.Prelude.{ℕ, ◌+◌, ◌-◌, ◌≡◌, Bool, cond, ◌&&◌, List, [], ◌∷◌, eqb, ltb, length}
 use Rattle.model.specs.Sent.{standing}
 use Rattle.model.specs.declared.Sent.{Sent}
-use Rattle.records.specs.View.{store_handle}
+use Rattle.records.specs.View.{store_handle, store_handles}
 
 -- a data packet neither acked nor lost
 unfoldable pub awaits_of : Sent → Bool
@@ -19,17 +19,12 @@ unfolding awaits_of unless_none
 probes_of probes [] = []
 probes_of probes (r ∷ l) = cond (ltb 0 probes && awaits_of r) (unless_none r.handle (probes_of (probes - 1) l)) (probes_of probes l)
 
--- handles stored one after another, from place i of queue w of space n on
-unfoldable pub store_all : List ℕ → ℕ → ℕ → ℕ → List ℕ → List ℕ
-store_all m n w i [] = m
-store_all m n w i (h ∷ l) = store_all (store_handle m n w i h) n w (i + 1) l
-
--- a handle stored at place i unless it is 0, and the next free place
+-- a handle stored at place i unless it is 0, and how many that are
 pub record Put (m : List ℕ) (n w i handle r : ℕ) (m' : List ℕ) : Type 0 where
-  pub next : r ≡ cond (eqb handle 0) i (i + 1)
+  pub count : r ≡ cond (eqb handle 0) 0 1
   pub memory : m' ≡ cond (eqb handle 0) m (store_handle m n w i handle)
 
 -- the handles stored from place i on, with the place after them: all else is as it was
 pub record StoredFrom (m : List ℕ) (n w i : ℕ) (l : List ℕ) (r : ℕ) (m' : List ℕ) : Type 0 where
   pub count : r ≡ i + length l
-  pub memory : m' ≡ store_all m n w i l
+  pub memory : m' ≡ store_handles m n w i l

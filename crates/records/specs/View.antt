@@ -1,15 +1,17 @@
 -- How the sent records and the queues of three spaces lie in one lent array of words, and what they are read as. Definitions only.
 -- One array, so that an event lends one thing; all of a space lies together, so that a space can be copied as one piece.
 -- Every index is taken modulo its range, so that any number names a word and no reader or writer needs a `requires`.
-use Rattle.std.specs.Prelude.{ℕ, zero, suc, ◌+◌, ◌-◌, ◌*◌, ◌/◌, ◌%◌, Bool, true, false, cond, ◌&&◌, List, [], ◌∷◌, ◌++◌, eqb, get_or, set}
+use Rattle.std.specs.Prelude.{ℕ, zero, suc, ◌+◌, ◌-◌, ◌*◌, ◌/◌, ◌%◌, Bool, true, false, cond, ◌&&◌, List, [], ◌∷◌, ◌++◌, eqb, get_or, set, Option, Some, None}
 use Rattle.arith.specs.Time.{moment}
 use Rattle.arith.specs.declared.time.Moment.{Moment}
 use Rattle.model.specs.Numbers.{capacity}
 use Rattle.model.specs.Sent.{standing}
 use Rattle.model.specs.declared.Packet.{Packet}
 use Rattle.model.specs.declared.Sent.{Sent}
-use Rattle.model.specs.declared.Time.{Time}
-use Rattle.model.specs.declared.Time.TheVariants.{Unset, At}
+use Rattle.records.specs.declared.memory.Queue.{Queue}
+use Rattle.records.specs.declared.memory.Queue.TheVariants.{AckedFrames, LostFramesAck, LostFramesPto}
+use Rattle.records.specs.declared.memory.Word.{Word}
+use Rattle.records.specs.declared.memory.Word.TheVariants.{Number, TimeSent, Size, Flags, Handle, Mark}
 
 -- ---- where a word lies
 
@@ -20,11 +22,26 @@ space_words = 9 * capacity
 abbrev pub all_words : ℕ
 all_words = 3 * space_words
 
--- word j of record slot k of space n: 0 number, 1 time sent, 2 size, 3 flags, 4 handle, 5 mark
+-- the place of a word in a record
+abbrev pub word_place : Word → ℕ
+word_place Number = 0
+word_place TimeSent = 1
+word_place Size = 2
+word_place Flags = 3
+word_place Handle = 4
+word_place Mark = 5
+
+-- the queues of a space: handles of acked packets, of packets lost by an ACK, of packets sent again on a PTO
+abbrev pub queue_place : Queue → ℕ
+queue_place AckedFrames = 0
+queue_place LostFramesAck = 1
+queue_place LostFramesPto = 2
+
+-- word j of record slot k of space n
 abbrev pub at : ℕ → ℕ → ℕ → ℕ
 at n k j = space_words * (n % 3) + (6 * (k % capacity) + j)
 
--- place i of queue w of space n; queues: 0 handles of acked packets, 1 of packets lost by an ACK, 2 of packets sent again on a PTO
+-- place i of queue w of space n
 abbrev pub slot : ℕ → ℕ → ℕ → ℕ
 slot n w i = space_words * (n % 3) + (6 * capacity + (capacity * (w % 3) + i % capacity))
 
@@ -42,8 +59,8 @@ flags_of p = bit p.ack_eliciting + 2 * bit p.in_flight + 4 * bit p.has_data + 8 
 abbrev pub acked_by : ℕ → Bool
 acked_by mark = eqb (mark % 2) 1
 
-abbrev pub lost_by : ℕ → Time
-lost_by mark = cond (eqb (mark / 2) 0) Unset (At (moment (mark / 2 - 1)))
+abbrev pub lost_by : ℕ → Option Moment
+lost_by mark = cond (eqb (mark / 2) 0) None (Some (moment (mark / 2 - 1)))
 
 -- ---- what is held
 
@@ -101,3 +118,8 @@ store_mark m n k mark = set m (at n k 5) mark
 
 abbrev pub store_handle : List ℕ → ℕ → ℕ → ℕ → ℕ → List ℕ
 store_handle m n w i handle = set m (slot n w i) handle
+
+-- handles stored one after another, from place i of queue w of space n on
+unfoldable pub store_handles : List ℕ → ℕ → ℕ → ℕ → List ℕ → List ℕ
+store_handles m n w i [] = m
+store_handles m n w i (h ∷ l) = store_handles (store_handle m n w i h) n w (i + 1) l

@@ -1,10 +1,10 @@
 // The words of a connection's memory: its sent records and its queues of handles, read and stored. specs/View.antt says where each lies.
-ghost use Rattle.std.specs.Prelude.{◌≡◌, true, ◌≤◌, min, length, get_or};
+ghost use Rattle.std.specs.Prelude.{◌≡◌, true, ◌≤◌, min, length, get_or, set};
 ghost use Rattle.model.specs.Numbers.{capacity};
-ghost use Rattle.records.specs.View.{all_words, at, slot, bit, flags_of, lost_by, record_at, store_record, store_mark, store_handle};
+ghost use Rattle.records.specs.View.{all_words, at, word_place, queue_place, slot, flags_of, lost_by, record_at, store_record, store_mark, store_handle};
 
 use arith::time::Moment;
-use model::{Packet, Sent, Time};
+use model::{Packet, Sent};
 
 // At most 256 records per space and 256 handles per queue. 01 The stage numbers
 pub const CAPACITY: usize = 256;
@@ -17,20 +17,53 @@ pub const WORDS: usize = 3 * SPACE_WORDS;
 
 pub type Words = [u64; WORDS];
 
-// The words of a record.
+// The words of a record, in this order.
+#[derive(Clone, Copy)]
+pub enum Word {
+    Number,
+    TimeSent,
+    Size,
+    Flags,
+    Handle,
+    Mark,
+}
+
 const RECORD_WORDS: usize = 6;
 
-const NUMBER: usize = 0;
+impl Word {
+    fn place(self) -> usize
+        ensures { result ≡ word_place self }
+    {
+        match self {
+            Word::Number => 0,
+            Word::TimeSent => 1,
+            Word::Size => 2,
+            Word::Flags => 3,
+            Word::Handle => 4,
+            Word::Mark => 5,
+        }
+    }
+}
 
-const TIME_SENT: usize = 1;
+// The queues of handles of a space, in this order: of acked packets, of packets lost by an ACK, of packets sent again on a PTO.
+#[derive(Clone, Copy)]
+pub enum Queue {
+    AckedFrames,
+    LostFramesAck,
+    LostFramesPto,
+}
 
-const SIZE: usize = 2;
-
-const FLAGS: usize = 3;
-
-const HANDLE: usize = 4;
-
-const MARK: usize = 5;
+impl Queue {
+    fn place(self) -> usize
+        ensures { result ≡ queue_place self }
+    {
+        match self {
+            Queue::AckedFrames => 0,
+            Queue::LostFramesAck => 1,
+            Queue::LostFramesPto => 2,
+        }
+    }
+}
 
 // A lent array does not tell its length; one by value does. The copy is optimised away.
 pub fn full(m: Words) -> bool
@@ -43,126 +76,103 @@ pub fn full(m: Words) -> bool
 pub fn held(len: usize) -> usize
     ensures { result ≡ min len capacity }
 {
-    if len <= CAPACITY { len } else { CAPACITY }
+    len.min(CAPACITY)
 }
 
-// The number of the record in slot k of space n.
-pub fn number_at(m: &Words, n: u64, k: usize) -> u64
-    ensures { result ≡ get_or m.now (at n k 0) 0 }
+// Where a word of the record in slot k of space n lies.
+fn at(n: u64, k: usize, word: Word) -> usize
+    ensures { result ≡ at n k (word_place word) }
 {
-    m[SPACE_WORDS * ((n % 3) as usize) + (RECORD_WORDS * (k % CAPACITY) + NUMBER)]
+    SPACE_WORDS * ((n % 3) as usize) + (RECORD_WORDS * (k % CAPACITY) + word.place())
 }
 
-// Its size.
-pub fn size_at(m: &Words, n: u64, k: usize) -> u64
-    ensures { result ≡ get_or m.now (at n k 2) 0 }
+// Where place i of queue w of space n lies.
+fn slot(n: u64, w: Queue, i: usize) -> usize
+    ensures { result ≡ slot n (queue_place w) i }
 {
-    m[SPACE_WORDS * ((n % 3) as usize) + (RECORD_WORDS * (k % CAPACITY) + SIZE)]
+    SPACE_WORDS * ((n % 3) as usize) + (QUEUES + (CAPACITY * w.place() + i % CAPACITY))
 }
 
-// Its flags.
-pub fn flags_at(m: &Words, n: u64, k: usize) -> u64
-    ensures { result ≡ get_or m.now (at n k 3) 0 }
+// A word of the record in slot k of space n.
+pub fn word_at(m: &Words, n: u64, k: usize, word: Word) -> u64
+    ensures { result ≡ get_or m.now (at n k (word_place word)) 0 }
 {
-    m[SPACE_WORDS * ((n % 3) as usize) + (RECORD_WORDS * (k % CAPACITY) + FLAGS)]
-}
-
-// Its handle.
-pub fn record_handle_at(m: &Words, n: u64, k: usize) -> u64
-    ensures { result ≡ get_or m.now (at n k 4) 0 }
-{
-    m[SPACE_WORDS * ((n % 3) as usize) + (RECORD_WORDS * (k % CAPACITY) + HANDLE)]
-}
-
-// Its mark.
-pub fn mark_at(m: &Words, n: u64, k: usize) -> u64
-    ensures { result ≡ get_or m.now (at n k 5) 0 }
-{
-    m[SPACE_WORDS * ((n % 3) as usize) + (RECORD_WORDS * (k % CAPACITY) + MARK)]
+    m[at(n, k, word)]
 }
 
 // When a record with this mark was declared lost.
-pub fn time_lost(mark: u64) -> Time
+pub fn time_lost(mark: u64) -> Option<Moment>
     ensures { result ≡ lost_by mark }
 {
-    let t = mark / 2;
-    if t == 0 {
-        Time::Unset
-    } else {
-        Time::At(Moment(t - 1))
-    }
+    (mark / 2).checked_sub(1).map(Moment)
 }
 
 // The record in slot k of space n.
+#[tactic(auto, unfolding(crate::specs::View::record_at, crate::specs::View::record_by))]
 pub fn record_at(m: &Words, n: u64, k: usize) -> Sent
     ensures { result ≡ record_at m.now n k }
 {
-    let base = SPACE_WORDS * ((n % 3) as usize);
-    let place = RECORD_WORDS * (k % CAPACITY);
-    let flags = m[base + (place + FLAGS)];
-    let mark = m[base + (place + MARK)];
-    let lost = time_lost(mark);
+    let flags = word_at(m, n, k, Word::Flags);
+    let mark = word_at(m, n, k, Word::Mark);
     Sent {
-        number: m[base + (place + NUMBER)],
-        time_sent: Moment(m[base + (place + TIME_SENT)]),
-        size: m[base + (place + SIZE)],
+        number: word_at(m, n, k, Word::Number),
+        time_sent: Moment(word_at(m, n, k, Word::TimeSent)),
+        size: word_at(m, n, k, Word::Size),
         ack_eliciting: flags % 2 == 1,
         in_flight: flags / 2 % 2 == 1,
         has_data: flags / 4 % 2 == 1,
         is_pmtud_probe: flags / 8 % 2 == 1,
-        handle: m[base + (place + HANDLE)],
+        handle: word_at(m, n, k, Word::Handle),
         acked: mark % 2 == 1,
-        time_lost: lost,
+        time_lost: time_lost(mark),
     }
-}
-
-fn bit_of(b: bool) -> u64
-    ensures { (result ≡ bit b) × (result ≤ 1) }
-{
-    if b { 1 } else { 0 }
 }
 
 fn flags_of(p: Packet) -> u64
     ensures { result ≡ flags_of p }
 {
-    bit_of(p.ack_eliciting)
-        + 2 * bit_of(p.in_flight)
-        + 4 * bit_of(p.has_data)
-        + 8 * bit_of(p.is_pmtud_probe)
+    u64::from(p.ack_eliciting)
+        + 2 * u64::from(p.in_flight)
+        + 4 * u64::from(p.has_data)
+        + 8 * u64::from(p.is_pmtud_probe)
+}
+
+// A word of the record in slot k of space n becomes x.
+fn store_word(m: &mut Words, n: u64, k: usize, word: Word, x: u64)
+    ensures { m.new ≡ set m.old (at n k (word_place word)) x }
+{
+    m[at(n, k, word)] = x;
 }
 
 // A packet that is sent at time takes slot k of space n.
+#[tactic(auto, unfolding(crate::specs::View::store_record))]
 pub fn store_record(m: &mut Words, n: u64, k: usize, time: Moment, p: Packet)
     ensures { m.new ≡ store_record m.old n k time p }
 {
-    let base = SPACE_WORDS * ((n % 3) as usize);
-    let place = RECORD_WORDS * (k % CAPACITY);
-    let flags = flags_of(p);
-    m[base + (place + NUMBER)] = p.number;
-    m[base + (place + TIME_SENT)] = time.0;
-    m[base + (place + SIZE)] = p.size;
-    m[base + (place + FLAGS)] = flags;
-    m[base + (place + HANDLE)] = p.handle;
-    m[base + (place + MARK)] = 0;
+    store_word(m, n, k, Word::Number, p.number);
+    store_word(m, n, k, Word::TimeSent, time.0);
+    store_word(m, n, k, Word::Size, p.size);
+    store_word(m, n, k, Word::Flags, flags_of(p));
+    store_word(m, n, k, Word::Handle, p.handle);
+    store_word(m, n, k, Word::Mark, 0);
 }
 
 // The record in slot k of space n gets a mark.
 pub fn store_mark(m: &mut Words, n: u64, k: usize, mark: u64)
     ensures { m.new ≡ store_mark m.old n k mark }
 {
-    m[SPACE_WORDS * ((n % 3) as usize) + (RECORD_WORDS * (k % CAPACITY) + MARK)] = mark;
+    store_word(m, n, k, Word::Mark, mark);
 }
 
 // The handle at place i of queue w of space n.
-pub fn handle_at(m: &Words, n: u64, w: u64, i: usize) -> u64
-    ensures { result ≡ get_or m.now (slot n w i) 0 }
+pub fn handle_at(m: &Words, n: u64, w: Queue, i: usize) -> u64
+    ensures { result ≡ get_or m.now (slot n (queue_place w) i) 0 }
 {
-    m[SPACE_WORDS * ((n % 3) as usize) + (QUEUES + (CAPACITY * ((w % 3) as usize) + i % CAPACITY))]
+    m[slot(n, w, i)]
 }
 
-pub fn store_handle(m: &mut Words, n: u64, w: u64, i: usize, handle: u64)
-    ensures { m.new ≡ store_handle m.old n w i handle }
+pub fn store_handle(m: &mut Words, n: u64, w: Queue, i: usize, handle: u64)
+    ensures { m.new ≡ store_handle m.old n (queue_place w) i handle }
 {
-    m[SPACE_WORDS * ((n % 3) as usize)
-        + (QUEUES + (CAPACITY * ((w % 3) as usize) + i % CAPACITY))] = handle;
+    m[slot(n, w, i)] = handle;
 }

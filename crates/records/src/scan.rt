@@ -5,41 +5,32 @@ ghost use Rattle.model.specs.Numbers.{capacity};
 ghost use Rattle.model.specs.Connection.{outstanding};
 ghost use Rattle.records.specs.View.{record_at, records_of, weight_of};
 
-use crate::memory::{CAPACITY, Words, flags_at, held, mark_at, size_at};
-use arith::time::{Sum, add_up};
+use crate::memory::{CAPACITY, Word, Words, held, word_at};
+use arith::refusal::Refusal;
+use arith::time::add_up;
 
 // The bytes of the record in slot k of space n that are still out: its size if it is in flight and neither acked nor lost, else 0.
+#[tactic(auto, using(crate::proofs::Bytes::weight_marked, crate::proofs::Bytes::weight_resting, crate::proofs::Bytes::weight_out))]
 fn weight_at(m: &Words, n: u64, k: usize) -> u64
     ensures { result ≡ weight_of (record_at m.now n k) }
 {
-    if mark_at(m, n, k) != 0 {
-        return 0;
+    if word_at(m, n, k, Word::Mark) == 0 && word_at(m, n, k, Word::Flags) / 2 % 2 == 1 {
+        word_at(m, n, k, Word::Size)
+    } else {
+        0
     }
-    if flags_at(m, n, k) / 2 % 2 != 1 {
-        return 0;
-    }
-    size_at(m, n, k)
 }
 
 // The bytes in flight by the records of space n. 01 Replay and the host: the audit's total
-pub fn outstanding_bytes(m: &Words, n: u64, head: usize, len: usize) -> Sum
+#[tactic(auto, using(crate::proofs::Bytes::scan_start, crate::proofs::Bytes::scan_small, crate::proofs::Bytes::scan_on, crate::proofs::Bytes::scan_over))]
+pub fn outstanding_bytes(m: &Words, n: u64, head: usize, len: usize) -> Result<u64, Refusal>
     ensures { result ≡ within (outstanding (records_of m.now n (head % capacity) (min len capacity))) }
 {
     let first = head % CAPACITY;
     let count = held(len);
-    let mut total: u64 = 0;
-    let mut i: usize = 0;
-    while i < count {
-        let sum = add_up(total, weight_at(m, n, first + i));
-        match sum {
-            Sum::Fine(t) => {
-                total = t;
-            }
-            Sum::Over => {
-                return Sum::Over;
-            }
-        }
-        i = i + 1;
+    let mut total = 0;
+    for i in 0..count {
+        total = add_up(total, weight_at(m, n, first + i))?;
     }
-    Sum::Fine(total)
+    Ok(total)
 }

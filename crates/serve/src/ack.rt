@@ -2,12 +2,13 @@
 ghost use Rattle.serve.specs.Record.{record_of};
 ghost use Rattle.serve.specs.Events.{AckServed};
 
-use crate::AckDone;
-use crate::answered::{NOT_BEGUN, ack_done, no_ack};
+use crate::said::{done, not_begun};
+use crate::{AckAnswer, Done};
 use arith::time::Moment;
+use connection::State;
+use model::coded::{is_odd, skipped_of};
 use plain::Values;
-use plain::coded::{is_odd, skipped_of, status_of};
-use plain::opened::{is_sealed, opened};
+use plain::opened::is_sealed;
 use records::memory::Words;
 
 // Ranges as start and end in turn; the delay in microseconds. Refusals 1, 2, 4, 5, 6 and 7. 000 on_ack_received
@@ -21,26 +22,24 @@ pub fn on_ack_received(
     status: u8,
     limited: u8,
     skipped: u64,
-) -> AckDone
+) -> Done<AckAnswer>
     ensures { AckServed (record_of m.old v) time space ranges.now delay status limited skipped result.answer (record_of m.new result.values) }
 {
     if !is_sealed(v) {
-        return AckDone {
-            answer: no_ack(NOT_BEGUN),
-            values: v,
-        };
+        return not_begun(v);
     }
-    let number = skipped_of(skipped);
-    let a = tracker::ack::on_ack_received(
-        m,
-        opened(v),
-        Moment(time),
-        space,
-        ranges,
-        delay,
-        status_of(status),
-        is_odd(limited),
-        number,
-    );
-    ack_done(a, v)
+    done(
+        tracker::ack::on_ack_received(
+            m,
+            State::from(v),
+            Moment(time),
+            space,
+            ranges,
+            delay,
+            status.into(),
+            is_odd(limited),
+            skipped_of(skipped),
+        ),
+        v,
+    )
 }

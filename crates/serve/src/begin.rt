@@ -3,10 +3,10 @@ ghost use Rattle.serve.specs.Record.{record_of};
 ghost use Rattle.serve.specs.Events.{BeginServed};
 
 use crate::Done;
-use connection::fresh::{Begun, fresh};
+use arith::refusal::Refusal;
+use connection::fresh::fresh;
+use model::coded::settings_of;
 use plain::Values;
-use plain::coded::{number_of, settings_of};
-use plain::packed::values_of;
 use records::memory::Words;
 
 // Any record can be begun; its words stay, being lent as to every event. The spans in nanoseconds. Refusal 2. 000 new
@@ -17,22 +17,21 @@ pub fn begin(
     initial_window_packets: u64,
     initial_rtt: u64,
     max_ack_delay: u64,
-) -> Done
+) -> Done<u64>
     ensures { BeginServed (record_of m.old v) max_datagram_size initial_window_packets initial_rtt max_ack_delay result.answer (record_of m.new result.values) }
 {
-    let begun = fresh(settings_of(
+    match fresh(settings_of(
         max_datagram_size,
         initial_window_packets,
         initial_rtt,
         max_ack_delay,
-    ));
-    match begun {
-        Begun::Accepted(s) => Done {
+    )) {
+        Ok(s) => Done {
             answer: 0,
-            values: values_of(s),
+            values: Values::from(s),
         },
-        Begun::Refused(k) => Done {
-            answer: number_of(k),
+        Err(k) => Done {
+            answer: u64::from(u8::from(k)),
             values: v,
         },
     }

@@ -3,11 +3,11 @@ ghost use Rattle.serve.specs.Record.{record_of};
 ghost use Rattle.serve.specs.Events.{DiscardServed};
 
 use crate::Done;
-use crate::answered::{NOT_BEGUN, done};
+use crate::said::{done, not_begun};
 use arith::time::Moment;
+use connection::State;
 use plain::Values;
-use plain::coded::status_of;
-use plain::opened::{is_sealed, opened};
+use plain::opened::is_sealed;
 use records::memory::Words;
 
 // Refusals 1, 2 and 7. 000 on_pkt_num_space_discarded
@@ -17,21 +17,20 @@ pub fn on_pkt_num_space_discarded(
     time: u64,
     space: u64,
     status: u8,
-) -> Done
+) -> Done<u64>
     ensures { DiscardServed (record_of m.old v) time space status result.answer (record_of m.new result.values) }
 {
     if !is_sealed(v) {
-        return Done {
-            answer: NOT_BEGUN,
-            values: v,
-        };
+        return not_begun(v);
     }
-    let a = connection::discard::on_pkt_num_space_discarded(
-        m,
-        opened(v),
-        Moment(time),
-        space,
-        status_of(status),
-    );
-    done(a, v)
+    done(
+        connection::discard::on_pkt_num_space_discarded(
+            m,
+            State::from(v),
+            Moment(time),
+            space,
+            status.into(),
+        ),
+        v,
+    )
 }

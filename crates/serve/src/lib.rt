@@ -6,11 +6,11 @@ use plain::Values;
 use records::memory::Words;
 
 pub mod ack;
-mod answered;
 pub mod begin;
 pub mod discard;
 pub mod readouts;
 pub mod resize;
+mod said;
 pub mod sent;
 pub mod take;
 pub mod timeouts;
@@ -23,14 +23,14 @@ pub struct Connection {
     pub values: Values,
 }
 
-// The number of the refusal, or 0; the values after the event.
+// An event's answer in plain numbers, and the values after the event.
 #[derive(Clone, Copy)]
-pub struct Done {
-    pub answer: u64,
+pub struct Done<T> {
+    pub answer: T,
     pub values: Values,
 }
 
-// The number of the refusal, with zeros beside it; or 0, with what came of the ack.
+// The number of the refusal, with zeros beside it; or 0, with what came of the ack. C has no Result.
 #[repr(C)]
 #[derive(Clone, Copy)]
 pub struct AckAnswer {
@@ -39,12 +39,6 @@ pub struct AckAnswer {
     pub lost_bytes: u64,
     pub acked_bytes: u64,
     pub spurious_losses: u64,
-}
-
-#[derive(Clone, Copy)]
-pub struct AckDone {
-    pub answer: AckAnswer,
-    pub values: Values,
 }
 
 // The same of a timeout.
@@ -56,22 +50,10 @@ pub struct TimeoutAnswer {
     pub lost_bytes: u64,
 }
 
-#[derive(Clone, Copy)]
-pub struct TimeoutDone {
-    pub answer: TimeoutAnswer,
-    pub values: Values,
-}
-
 // The same of a handle that is taken.
 #[repr(C)]
 #[derive(Clone, Copy)]
 pub struct TakeAnswer {
     pub refusal: u64,
     pub handle: u64,
-}
-
-#[derive(Clone, Copy)]
-pub struct TakeDone {
-    pub answer: TakeAnswer,
-    pub values: Values,
 }

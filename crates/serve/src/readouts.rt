@@ -5,12 +5,10 @@ ghost use Rattle.connection.specs.View.{connection_of};
 ghost use Rattle.serve.specs.Record.{record_of, stands_for};
 ghost use Rattle.serve.specs.Readouts.{of_spaces, readouts_of};
 
-use arith::time::SpanSum;
+use arith::time::Span;
 use connection::State;
 use connection::readout::{cwnd_available, has_lost_frames, pto, should_elicit_ack};
 use plain::Values;
-use plain::opened::opened;
-use plain::packed::of_bool;
 
 // A number for each space; 1 for yes.
 #[repr(C)]
@@ -21,7 +19,7 @@ pub struct OfSpaces {
     pub application: u64,
 }
 
-// Bytes that may be sent; the PTO in nanoseconds, or that it is too large; whether to elicit an ack, and whether a lost handle waits.
+// Bytes that may be sent; the PTO in nanoseconds, or that it is too large (C has no Result); whether to elicit an ack, and whether a lost handle waits.
 #[repr(C)]
 #[derive(Clone, Copy)]
 pub struct Readouts {
@@ -36,9 +34,9 @@ fn elicits(s: State) -> OfSpaces
     ensures { (m : List ℕ) → result ≡ of_spaces should_elicit_ack_of (connection_of m s) }
 {
     OfSpaces {
-        initial: of_bool(should_elicit_ack(s, 0)),
-        handshake: of_bool(should_elicit_ack(s, 1)),
-        application: of_bool(should_elicit_ack(s, 2)),
+        initial: u64::from(should_elicit_ack(s, 0)),
+        handshake: u64::from(should_elicit_ack(s, 1)),
+        application: u64::from(should_elicit_ack(s, 2)),
     }
 }
 
@@ -46,34 +44,24 @@ fn lost_waiting(s: State) -> OfSpaces
     ensures { (m : List ℕ) → result ≡ of_spaces has_lost_frames_of (connection_of m s) }
 {
     OfSpaces {
-        initial: of_bool(has_lost_frames(s, 0)),
-        handshake: of_bool(has_lost_frames(s, 1)),
-        application: of_bool(has_lost_frames(s, 2)),
+        initial: u64::from(has_lost_frames(s, 0)),
+        handshake: u64::from(has_lost_frames(s, 1)),
+        application: u64::from(has_lost_frames(s, 2)),
     }
 }
 
 // The read-outs of a record with these values, whatever its words. 000 cwnd_available, pto, should_elicit_ack, has_lost_frames
+#[tactic(auto, unfolding(crate::specs::Readouts::readouts_of))]
 pub fn read(v: Values) -> Readouts
     ensures { (m : List ℕ) → result ≡ readouts_of (stands_for (record_of m v)) }
 {
-    let s = opened(v);
-    let elicited = elicits(s);
-    let waiting = lost_waiting(s);
-    let available = cwnd_available(s);
-    match pto(s) {
-        SpanSum::SpanOf(x) => Readouts {
-            cwnd_available: available,
-            pto_is_too_large: 0,
-            pto: x.0,
-            should_elicit_ack: elicited,
-            has_lost_frames: waiting,
-        },
-        SpanSum::TooLong => Readouts {
-            cwnd_available: available,
-            pto_is_too_large: 1,
-            pto: 0,
-            should_elicit_ack: elicited,
-            has_lost_frames: waiting,
-        },
+    let s = State::from(v);
+    let pto = pto(s);
+    Readouts {
+        cwnd_available: cwnd_available(s),
+        pto_is_too_large: u64::from(pto.is_err()),
+        pto: pto.unwrap_or(Span(0)).0,
+        should_elicit_ack: elicits(s),
+        has_lost_frames: lost_waiting(s),
     }
 }

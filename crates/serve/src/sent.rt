@@ -3,11 +3,12 @@ ghost use Rattle.serve.specs.Record.{record_of};
 ghost use Rattle.serve.specs.Events.{SentServed};
 
 use crate::Done;
-use crate::answered::{NOT_BEGUN, done};
+use crate::said::{done, not_begun};
 use arith::time::Moment;
+use connection::State;
+use model::coded::packet_of;
 use plain::Values;
-use plain::coded::{packet_of, status_of};
-use plain::opened::{is_sealed, opened};
+use plain::opened::is_sealed;
 use records::memory::Words;
 
 // A packet of a space, at a time in nanoseconds. Refusals 1, 2, 3, 6 and 7. 000 on_packet_sent
@@ -21,23 +22,21 @@ pub fn on_packet_sent(
     flags: u8,
     handle: u64,
     status: u8,
-) -> Done
+) -> Done<u64>
     ensures { SentServed (record_of m.old v) time space number size flags handle status result.answer (record_of m.new result.values) }
 {
     if !is_sealed(v) {
-        return Done {
-            answer: NOT_BEGUN,
-            values: v,
-        };
+        return not_begun(v);
     }
-    let packet = packet_of(number, size, flags, handle);
-    let a = connection::sent::on_packet_sent(
-        m,
-        opened(v),
-        Moment(time),
-        space,
-        packet,
-        status_of(status),
-    );
-    done(a, v)
+    done(
+        connection::sent::on_packet_sent(
+            m,
+            State::from(v),
+            Moment(time),
+            space,
+            packet_of(number, size, flags, handle),
+            status.into(),
+        ),
+        v,
+    )
 }

@@ -2,56 +2,45 @@
 ghost use Rattle.serve.specs.Record.{record_of};
 ghost use Rattle.serve.specs.Events.{TakeAckedServed, TakeLostServed, PingServed};
 
-use crate::answered::{NOT_BEGUN, done, take_done};
-use crate::{Done, TakeAnswer, TakeDone};
+use crate::said::{done, not_begun};
+use crate::{Done, TakeAnswer};
+use connection::State;
 use plain::Values;
-use plain::opened::{is_sealed, opened};
+use plain::opened::is_sealed;
 use records::memory::Words;
 
 // Refusal 2. 000 next_acked_frame
-pub fn next_acked_frame(m: &mut Words, v: Values, space: u64) -> TakeDone
+pub fn next_acked_frame(m: &mut Words, v: Values, space: u64) -> Done<TakeAnswer>
     ensures { TakeAckedServed (record_of m.old v) space result.answer (record_of m.new result.values) }
 {
     if !is_sealed(v) {
-        return TakeDone {
-            answer: TakeAnswer {
-                refusal: NOT_BEGUN,
-                handle: 0,
-            },
-            values: v,
-        };
+        return not_begun(v);
     }
-    let a = connection::take::next_acked_frame(m, opened(v), space);
-    take_done(a, v)
+    done(
+        connection::take::next_acked_frame(m, State::from(v), space),
+        v,
+    )
 }
 
 // Refusal 2. 000 next_lost_frame
-pub fn next_lost_frame(m: &mut Words, v: Values, space: u64) -> TakeDone
+pub fn next_lost_frame(m: &mut Words, v: Values, space: u64) -> Done<TakeAnswer>
     ensures { TakeLostServed (record_of m.old v) space result.answer (record_of m.new result.values) }
 {
     if !is_sealed(v) {
-        return TakeDone {
-            answer: TakeAnswer {
-                refusal: NOT_BEGUN,
-                handle: 0,
-            },
-            values: v,
-        };
+        return not_begun(v);
     }
-    let a = connection::take::next_lost_frame(m, opened(v), space);
-    take_done(a, v)
+    done(
+        connection::take::next_lost_frame(m, State::from(v), space),
+        v,
+    )
 }
 
 // The words stay: they are lent as to every event. Refusal 2. 000 ping_sent
-pub fn ping_sent(m: &mut Words, v: Values, space: u64) -> Done
+pub fn ping_sent(m: &mut Words, v: Values, space: u64) -> Done<u64>
     ensures { PingServed (record_of m.old v) space result.answer (record_of m.new result.values) }
 {
     if !is_sealed(v) {
-        return Done {
-            answer: NOT_BEGUN,
-            values: v,
-        };
+        return not_begun(v);
     }
-    let a = connection::take::ping_sent(opened(v), space);
-    done(a, v)
+    done(connection::take::ping_sent(State::from(v), space), v)
 }

@@ -1,4 +1,3 @@
 pub mod Probing
 pub mod Losing
 pub mod Whole
-pub mod One

@@ -4,12 +4,12 @@ use mathlib.Core.Bool.{false}
 use mathlib.Core.List.{List, [], ◌++◌, append-nil}
 use Prim.Native.Nat.{ℕ, zero, suc, ◌+◌, ◌-◌, ◌<◌, ◌≤◌, ◌%◌, min}
 use native.Mathlib.Omega.{arith}
-use lib.Dec.{eqb}
 use lib.ListN.{length, get_or, replicate}
 use lib.Seq.{drop_at}
 use Rattle.arith.specs.Whole.{limit}
 use Rattle.arith.specs.declared.time.Moment.{Moment}
-use Rattle.model.specs.Numbers.{Result, accepted, refused, then, capacity}
+use Rattle.arith.specs.Refusals.{then}
+use Rattle.model.specs.Numbers.{capacity}
 use Rattle.model.specs.Control.{control}
 use Rattle.model.specs.Timer.{timer_of}
 use Rattle.model.specs.Connection.{Connection, space_at, with_space, with_shared, with_timer, timed}
@@ -17,15 +17,15 @@ use Rattle.model.specs.Events.{Step, timeout_outcome, timeout_loss}
 use Rattle.model.specs.declared.Congestion.{Congestion}
 use Rattle.model.specs.declared.HandshakeStatus.{HandshakeStatus}
 use Rattle.model.specs.declared.OnLossDetectionTimeoutOutcome.{OnLossDetectionTimeoutOutcome}
-use Rattle.model.specs.declared.Refusal.{Refusal}
+use Rattle.arith.specs.declared.refusal.Refusal.{Refusal}
 use Rattle.model.specs.declared.Shared.{Shared}
-use Rattle.model.specs.declared.Time.{Time}
 use Rattle.model.proofs.Peel.{all_then, no_value}
 use Rattle.records.specs.View.{all_words, ring, records_of, queue_of}
 use Rattle.records.proofs.Laws.{length-queue}
 use Rattle.records.proofs.Rings.{ring-ext, length-ring}
 use Rattle.marks.specs.Marks.{flagged, held_at, handles_of}
-use Rattle.marks.specs.Store.{store_marks, store_handles}
+use Rattle.marks.specs.Store.{store_marks}
+use Rattle.records.specs.View.{store_handles}
 use Rattle.marks.proofs.Rings.{held-records, acked-off, newly-none}
 use Rattle.commit.specs.Commit.{newly_handles, gone_handles, committed, Committed}
 use Rattle.commit.specs.declared.Queues.{Queues}
@@ -45,13 +45,14 @@ use Rattle.tracker.proofs.Kept.{stored, kept-view, whole-kept}
 use Rattle.timeout.specs.Loss.{lost_space, lost_shared, lost_moves, plan_lost, plan_loss}
 use Rattle.timeout.specs.Claim.{loss_words}
 use Rattle.timeout.specs.declared.loss.LossStep.{LossStep}
+use Rattle.std.specs.Prelude.{Bool, Result, Ok, Err, Option}
 
 -- a step in between that refuses nothing
-through : {A B C : Type 0} (x : Result A) (f : A → B) (k : B → Result C) → then (then x (λ a. accepted (f a))) k ≡ then x (λ a. k (f a))
-through (accepted a) f k = refl
-through (refused n) f k = refl
+through : {A B C : Type 0} (x : Result A Refusal) (f : A → B) (k : B → Result C Refusal) → then (then x (λ a. Ok (f a))) k ≡ then x (λ a. k (f a))
+through (Ok a) f k = refl
+through (Err n) f k = refl
 
-module _ (m : List ℕ) (full : length m ≡ all_words) (n : ℕ) (nn : n < 3) (s : State) (fs : List ℕ) (off : (i : ℕ) → flagged fs i ≡ false) (now : Moment) where
+module _ (m : List ℕ) (full : length m ≡ all_words) (n : ℕ) (nn : n < 3) (s : State) (fs : List Bool) (off : (i : ℕ) → flagged fs i ≡ false) (now : Moment) where
   abbrev q : SpaceState
   q = normal_of (space_state_at n s)
 
@@ -146,12 +147,12 @@ module _ (m : List ℕ) (full : length m ≡ all_words) (n : ℕ) (nn : n < 3) (
           drop_at (queue_of m n 1 q.lost_ack) (gone_handles m n q.head fs 0 l.stop) q.lost_ack (length-queue m n 1 q.lost_ack),
         ) refl)
 
-    commit-words : now.0 ≤ limit → {m' : List ℕ} {r : Queues} → Committed m n q.head q.len fs 0 0 l.stop l.keep now q.acked q.lost_ack m' r → m' ≡ words l
-    commit-words timely {m'} {r} done =
+    commit-words : now.0 ≤ limit → {last : ℕ} {m' : List ℕ} {r : Queues} → Committed m n q.head q.len fs last 0 l.stop l.keep now q.acked q.lost_ack m' r → m' ≡ words l
+    commit-words timely {last} {m'} {r} done =
         let a = en.stop-len in
         let b = len-fits in
         let c : l.stop ≤ min q.len capacity = omega arith in
-        commit-memory m n q.head q.len fs 0 0 l.stop l.keep now q.acked q.lost_ack (λ i x y. off i) c timely acked-fits lost-fits m' r done
+        commit-memory m n q.head q.len fs last 0 l.stop l.keep now q.acked q.lost_ack (λ i x y. off i) c timely acked-fits lost-fits m' r done
         ∙ ap (λ (x : ℕ). committed m n q.head x fs 0 l.stop l.keep now q.acked q.lost_ack) (counted q.len len-fits)
 
   space-of : (w : List ℕ) (p : SpaceState) (shared : Shared) → space_at n (connection_of w (with_space_state n p shared s)) ≡ space_of w n p
@@ -160,9 +161,9 @@ module _ (m : List ℕ) (full : length m ≡ all_words) (n : ℕ) (nn : n < 3) (
 
   module _ (status : HandshakeStatus) where
     -- what a decision leaves
-    abbrev pub lost_step : LossStep → Result (Step OnLossDetectionTimeoutOutcome)
+    abbrev pub lost_step : LossStep → Result (Step OnLossDetectionTimeoutOutcome) Refusal
     lost_step d =
-        accepted
+        Ok
         (record {
           state = connection_of (words d.losses) d.state;
           answer = timeout_outcome d.losses.tally.packets d.losses.tally.bytes;
@@ -171,18 +172,18 @@ module _ (m : List ℕ) (full : length m ≡ all_words) (n : ℕ) (nn : n < 3) (
 
     timed-lost : (l : Losses) → Ends m n q fs now s.shared.rtt.smoothed_rtt 0 l → (g : Congestion) →
         then (timed now status (with_shared (lost_shared now l g s.shared) (with_space n (after m n q fs now 0 first-place acks again q.epoch l) (connection_of m s))))
-        (λ e. accepted (record { state = e; answer = timeout_outcome l.tally.packets l.tally.bytes; moves = lost_moves now l }))
-        ≡ then (then (timed_state now status (with_space_state n (lost_space q l) (lost_shared now l g s.shared) s)) (λ t. accepted (record { losses = l; state = t }))) lost_step
+        (λ e. Ok (record { state = e; answer = timeout_outcome l.tally.packets l.tally.bytes; moves = lost_moves now l }))
+        ≡ then (then (timed_state now status (with_space_state n (lost_space q l) (lost_shared now l g s.shared) s)) (λ t. Ok (record { losses = l; state = t }))) lost_step
     timed-lost l en g =
         rw (whole-lost l en (lost_shared now l g s.shared), timed-view (words l) now status (with_space_state n (lost_space q l) (lost_shared now l g s.shared) s))
         (go (timed_state now status (with_space_state n (lost_space q l) (lost_shared now l g s.shared) s)))
       where
-        go : (x : Result State) →
-            then (then x (λ t. accepted (connection_of (words l) t)))
-            (λ e. accepted (record { state = e; answer = timeout_outcome l.tally.packets l.tally.bytes; moves = lost_moves now l }))
-            ≡ then (then x (λ t. accepted (record { losses = l; state = t }))) lost_step
-        go (accepted t) = refl
-        go (refused k) = refl
+        go : (x : Result State Refusal) →
+            then (then x (λ t. Ok (connection_of (words l) t)))
+            (λ e. Ok (record { state = e; answer = timeout_outcome l.tally.packets l.tally.bytes; moves = lost_moves now l }))
+            ≡ then (then x (λ t. Ok (record { losses = l; state = t }))) lost_step
+        go (Ok t) = refl
+        go (Err k) = refl
 
     -- a timeout with a loss time: model's event is the decision, stored
     pub loss-view : timeout_loss now n status (connection_of m s) ≡ then (plan_loss m n fs now status s) lost_step
@@ -202,7 +203,7 @@ module _ (m : List ℕ) (full : length m ≡ all_words) (n : ℕ) (nn : n < 3) (
         × (Placed (words d.losses) s n 0 d.state
         × (space_at n (connection_of (words d.losses) d.state) ≡ space_of (words d.losses) n (lost_space q d.losses)))
 
-    timed-lapsed : (l : Losses) → Ends m n q fs now s.shared.rtt.smoothed_rtt 0 l → (shared : Shared) (t : Time) →
+    timed-lapsed : (l : Losses) → Ends m n q fs now s.shared.rtt.smoothed_rtt 0 l → (shared : Shared) (t : Option Moment) →
         Lapsed (record { losses = l; state = armed t (with_space_state n (lost_space q l) shared s) })
     timed-lapsed l en shared t =
         rw (armed-space t s (lost_space q l) shared n nn) (
@@ -218,15 +219,15 @@ module _ (m : List ℕ) (full : length m ≡ all_words) (n : ℕ) (nn : n < 3) (
         then-each Lapsed (control (lost_moves now l) s.shared.congestion) _ λ g.
         ap-each l en (lost_shared now l g s.shared) (timer_of _)
       where
-        ap-each : (l : Losses) → Ends m n q fs now s.shared.rtt.smoothed_rtt 0 l → (shared : Shared) (x : Result Time) →
-            Each Lapsed (then (then x (λ t. accepted (armed t (with_space_state n (lost_space q l) shared s)))) (λ t. accepted (record { losses = l; state = t })))
-        ap-each l en shared (accepted t) = one_each Lapsed _ (timed-lapsed l en shared t)
-        ap-each l en shared (refused k) = λ a e. no_value e
+        ap-each : (l : Losses) → Ends m n q fs now s.shared.rtt.smoothed_rtt 0 l → (shared : Shared) (x : Result (Option Moment) Refusal) →
+            Each Lapsed (then (then x (λ t. Ok (armed t (with_space_state n (lost_space q l) shared s)))) (λ t. Ok (record { losses = l; state = t })))
+        ap-each l en shared (Ok t) = one_each Lapsed _ (timed-lapsed l en shared t)
+        ap-each l en shared (Err k) = λ a e. no_value e
 
-    pub loss-does : {d : LossStep} {m' : List ℕ} {r : Queues} → plan_loss m n fs now status s ≡ accepted d → now.0 ≤ limit →
-        Committed m n q.head q.len fs 0 0 d.losses.stop d.losses.keep now q.acked q.lost_ack m' r →
-        Does (timeout_loss now n status (connection_of m s)) (accepted (timeout_outcome d.losses.tally.packets d.losses.tally.bytes)) m m' s d.state (state_by s n 0) (loss_words m n s)
-    loss-does {d} {m'} {r} e timely done =
+    pub loss-does : {d : LossStep} {last : ℕ} {m' : List ℕ} {r : Queues} → plan_loss m n fs now status s ≡ Ok d → now.0 ≤ limit →
+        Committed m n q.head q.len fs last 0 d.losses.stop d.losses.keep now q.acked q.lost_ack m' r →
+        Does (timeout_loss now n status (connection_of m s)) (Ok (timeout_outcome d.losses.tally.packets d.losses.tally.bytes)) m m' s d.state (state_by s n 0) (loss_words m n s)
+    loss-does {d} {last} {m'} {r} e timely done =
         let k = lapsed d e in
         let w : m' ≡ words d.losses = commit-words d.losses k.0 timely done in
         rw w
@@ -234,20 +235,20 @@ module _ (m : List ℕ) (full : length m ≡ all_words) (n : ℕ) (nn : n < 3) (
         (loss-view ∙ rw e refl) k.1.0
         (stored-as d.losses k.0 (connection_of (words d.losses) d.state) (k.1.1 ∙ space-lost d.losses k.0)))
 
-    pub loss-refused : {k : Refusal} → plan_loss m n fs now status s ≡ refused k →
-        Does (timeout_loss now n status (connection_of m s)) (refused k) m m s s (state_by s n 0) (loss_words m n s)
+    pub loss-refused : {k : Refusal} → plan_loss m n fs now status s ≡ Err k →
+        Does (timeout_loss now n status (connection_of m s)) (Err k) m m s s (state_by s n 0) (loss_words m n s)
     loss-refused {k} e = does-refused m s (state_by s n 0) (loss_words m n s) _ k (loss-view ∙ rw e refl)
 
 -- ---- for the code
 
 -- no flag is set
-zero-at : (k i : ℕ) → ◌≡◌ {A = ℕ} (get_or (replicate k 0) i 0) 0
-zero-at zero i = refl
-zero-at (suc k) zero = refl
-zero-at (suc k) (suc i) = zero-at k i
-
-pub unflagged : (i : ℕ) → flagged (replicate 256 0) i ≡ false
-unflagged i = ap (λ (x : ℕ). eqb x 1) (zero-at 256 i)
+pub unflagged : (i : ℕ) → flagged (replicate 256 false) i ≡ false
+unflagged i = off 256 i
+  where
+    off : (k i : ℕ) → get_or (replicate k false) i false ≡ false
+    off zero i = refl
+    off (suc k) zero = refl
+    off (suc k) (suc i) = off k i
 
 -- round the ring
 pub around : (a b : ℕ) → (a % 256 + b % 256) % 256 ≡ (a + b) % 256

@@ -11,23 +11,24 @@ use lib.Dec.{eqb, leb}
 use lib.ListN.{length}
 use lib.Seq.{drop_at}
 use Rattle.arith.specs.declared.time.Moment.{Moment}
-use Rattle.model.specs.Numbers.{Result, accepted, refused, then, capacity}
+use Rattle.arith.specs.Refusals.{then}
+use Rattle.model.specs.Numbers.{capacity}
 use Rattle.model.specs.Timer.{timer_of, probe_space}
 use Rattle.model.specs.Connection.{Connection, space_at, with_space, with_shared, with_timer, facts_of, timed}
 use Rattle.model.specs.Events.{Step, timeout_outcome, probe_queue, space_probed, timeout_probe}
 use Rattle.model.specs.declared.Epoch.{Epoch}
 use Rattle.model.specs.declared.HandshakeStatus.{HandshakeStatus}
 use Rattle.model.specs.declared.OnLossDetectionTimeoutOutcome.{OnLossDetectionTimeoutOutcome}
-use Rattle.model.specs.declared.Refusal.TheVariants.{TooLarge}
+use Rattle.arith.specs.declared.refusal.Refusal.TheVariants.{TooLarge}
 use Rattle.model.specs.declared.Sent.{Sent}
 use Rattle.model.specs.declared.Shared.{Shared}
-use Rattle.model.specs.declared.Time.{Time}
 use Rattle.model.proofs.Peel.{no_value}
 use Rattle.model.proofs.Spaces.{probe-small}
 use Rattle.records.specs.View.{all_words, records_of, queue_of}
-use Rattle.records.specs.Probes.{probes_of, store_all, StoredFrom}
+use Rattle.records.specs.Probes.{probes_of, StoredFrom}
+use Rattle.records.specs.View.{store_handles}
 use Rattle.records.proofs.Laws.{records-mod, length-records, length-queue}
-use Rattle.records.proofs.Handles.{probe-handles, length-probes, store-all-records, store-all-other, store-all-space, store-all-queue}
+use Rattle.records.proofs.Handles.{probe-handles, length-probes, handles-records, handles-queue, handles-space, queue-handles}
 use Rattle.connection.specs.View.{count, space_of, connection_of, normal_of, space_state_at, with_space_state, state_by, Does}
 use Rattle.connection.specs.Steps.{facts_state, armed, timed_state, probed_space}
 use Rattle.connection.specs.declared.SpaceState.{SpaceState}
@@ -40,16 +41,18 @@ use Rattle.tracker.proofs.Chains.{then-then}
 use Rattle.timeout.specs.Probe.{raised, granted_state, plan_granted, plan_probe, queued_again, probed_words, probed_state, Probing}
 use Rattle.timeout.specs.Claim.{space_by, probe_at, probe_words}
 use Rattle.timeout.specs.declared.probe.Probes.{Probes}
+use Rattle.std.specs.Prelude.{Result, Ok, Err, Option}
+use Rattle.arith.specs.declared.refusal.Refusal.{Refusal}
 
 -- ---- the PTO queue
 
 -- an empty queue is filled, and never too full; another stays
 queue-by : (probes : ℕ) (r : List Sent) (a b l : List ℕ) (e : Epoch) → length r ≤ capacity →
     probe_queue probes (record { records = r; acked_frames = a; lost_frames_ack = b; lost_frames_pto = l; epoch = e })
-    ≡ accepted (l ++ cond (eqb (length l) 0) (probes_of probes r) [])
+    ≡ Ok (l ++ cond (eqb (length l) 0) (probes_of probes r) [])
 unfolding probe_queue
 queue-by probes r a b [] e le = probe-handles probes r le
-queue-by probes r a b (h ∷ l) e le = rw (ne_eqb (length (h ∷ l)) 0 (λ z. omega arith)) (ap (λ (x : List ℕ). accepted (h ∷ x)) (sym (append-nil l)))
+queue-by probes r a b (h ∷ l) e le = rw (ne_eqb (length (h ∷ l)) 0 (λ z. omega arith)) (ap (λ (x : List ℕ). Ok (h ∷ x)) (sym (append-nil l)))
 
 -- the handles that join leave room
 joined-fit : (m : List ℕ) (n probes : ℕ) (q : SpaceState) → q.lost_pto ≤ capacity → q.lost_pto + length (queued_again m n probes q) ≤ capacity
@@ -76,7 +79,7 @@ module _ (m : List ℕ) (full : length m ≡ all_words) (n : ℕ) (nn : n < 3) (
   more = queued_again m n probes (normal_of old)
 
   abbrev words : List ℕ
-  words = store_all m n 2 had more
+  words = store_handles m n 2 had more
 
   abbrev probed : SpaceState
   probed = probed_space probes (had + length more) (normal_of old)
@@ -85,7 +88,7 @@ module _ (m : List ℕ) (full : length m ≡ all_words) (n : ℕ) (nn : n < 3) (
   unfolding normal_of
   more-fit = joined-fit m n probes (normal_of old) (omega arith)
 
-  queue-view : probe_queue probes (space_of m n old) ≡ accepted (queue_of m n 2 had ++ more)
+  queue-view : probe_queue probes (space_of m n old) ≡ Ok (queue_of m n 2 had ++ more)
   unfolding space_of queued_again normal_of
   queue-view =
       queue-by probes (records_of m n old.head (count old.len)) _ _ (queue_of m n 2 had) old.epoch (rw (length-records m n old.head (count old.len)) (omega arith))
@@ -97,14 +100,14 @@ module _ (m : List ℕ) (full : length m ≡ all_words) (n : ℕ) (nn : n < 3) (
       let c : count (had + length more) ≡ had + length more = omega (arith, more-fit) in
       rw (
         c,
-        store-all-queue m n 2 had more full more-fit,
+        queue-handles m n 2 had more full more-fit,
         twice old.len,
         twice old.acked,
         twice old.lost_ack,
-        store-all-records m n 2 had more n (old.head % capacity) (count old.len),
+        handles-records m n 2 had more n (old.head % capacity) (count old.len),
         records-mod m n old.head (count old.len),
-        store-all-other m n 2 had more n 0 (count old.acked) (λ e. omega arith),
-        store-all-other m n 2 had more n 1 (count old.lost_ack) (λ e. omega arith),
+        handles-queue m n 2 had more n 0 (count old.acked) (λ e. omega arith),
+        handles-queue m n 2 had more n 1 (count old.lost_ack) (λ e. omega arith),
       ) refl
 
   others : (k : ℕ) → k < 3 → k ≢ n → (x : SpaceState) → space_of words k x ≡ space_of m k x
@@ -112,10 +115,10 @@ module _ (m : List ℕ) (full : length m ≡ all_words) (n : ℕ) (nn : n < 3) (
   others k kk off x =
       let apart : k % 3 ≢ n % 3 = λ e. off (omega arith) in
       rw (
-        store-all-records m n 2 had more k x.head (count x.len),
-        store-all-space m n 2 had more k 0 (count x.acked) apart,
-        store-all-space m n 2 had more k 1 (count x.lost_ack) apart,
-        store-all-space m n 2 had more k 2 (count x.lost_pto) apart,
+        handles-records m n 2 had more k x.head (count x.len),
+        handles-space m n 2 had more k 0 (count x.acked) apart,
+        handles-space m n 2 had more k 1 (count x.lost_ack) apart,
+        handles-space m n 2 had more k 2 (count x.lost_pto) apart,
       ) refl
 
   -- the connection with the probes and the handles
@@ -147,12 +150,12 @@ facts-probed now status n probes a b q shared s =
 
 -- ---- the event
 
-abbrev pub done_timeout : Connection → Result (Step OnLossDetectionTimeoutOutcome)
-done_timeout c = accepted (record { state = c; answer = timeout_outcome 0 0; moves = [] })
+abbrev pub done_timeout : Connection → Result (Step OnLossDetectionTimeoutOutcome) Refusal
+done_timeout c = Ok (record { state = c; answer = timeout_outcome 0 0; moves = [] })
 
 module _ (m : List ℕ) (full : length m ≡ all_words) (now : Moment) (status : HandshakeStatus) (s : State) where
   -- what a decision leaves
-  abbrev pub probed_step : Probes → Result (Step OnLossDetectionTimeoutOutcome)
+  abbrev pub probed_step : Probes → Result (Step OnLossDetectionTimeoutOutcome) Refusal
   probed_step p = done_timeout (connection_of (probed_words m s p) (probed_state m s p))
 
   granted-view : (n : ℕ) → n < 3 → (pto : ℕ) →
@@ -170,11 +173,11 @@ module _ (m : List ℕ) (full : length m ≡ all_words) (now : Moment) (status :
       )
       (go (timer_of _))
     where
-      go : (x : Result Time) →
-          then (then (then x (λ t. accepted (armed t (with_space_state n (probed m full n nn (min pto 2) s) (raised now pto s.shared) s)))) (λ t. accepted (connection_of (words m full n nn (min pto 2) s) t))) done_timeout
-          ≡ then (then x (λ t. accepted (record { space = n; probes = min pto 2; shared = with_timer t (raised now pto s.shared) }))) probed_step
-      go (accepted t) = rw (armed-space t s (probed m full n nn (min pto 2) s) (raised now pto s.shared) n nn) refl
-      go (refused k) = refl
+      go : (x : Result (Option Moment) Refusal) →
+          then (then (then x (λ t. Ok (armed t (with_space_state n (probed m full n nn (min pto 2) s) (raised now pto s.shared) s)))) (λ t. Ok (connection_of (words m full n nn (min pto 2) s) t))) done_timeout
+          ≡ then (then x (λ t. Ok (record { space = n; probes = min pto 2; shared = with_timer t (raised now pto s.shared) }))) probed_step
+      go (Ok t) = rw (armed-space t s (probed m full n nn (min pto 2) s) (raised now pto s.shared) n nn) refl
+      go (Err k) = refl
 
   -- a timeout without a loss time: model's event is the decision, stored
   pub probe-view : timeout_probe now status (connection_of m s) ≡ then (plan_probe now status s) probed_step
@@ -191,17 +194,17 @@ module _ (m : List ℕ) (full : length m ≡ all_words) (now : Moment) (status :
   unfolding plan_probe plan_granted probe_at
   chosen = go (probe_space (facts_state now status s)) refl
     where
-      go : (x : Result ℕ) → probe_space (facts_state now status s) ≡ x →
+      go : (x : Result ℕ Refusal) → probe_space (facts_state now status s) ≡ x →
           Each (λ p. (space_by x ≡ p.space) × (p.space < 3))
-          (then x λ n. cond (leb (s.shared.pto_count + 1) 4294967295) (plan_granted now status n (s.shared.pto_count + 1) s) (refused TooLarge))
-      go (accepted n) e =
+          (then x λ n. cond (leb (s.shared.pto_count + 1) 4294967295) (plan_granted now status n (s.shared.pto_count + 1) s) (Err TooLarge))
+      go (Ok n) e =
           cond-each (λ p. (n ≡ p.space) × (p.space < 3)) (leb (s.shared.pto_count + 1) 4294967295) _ _
           (then-each (λ p. (n ≡ p.space) × (p.space < 3)) (timer_of _) _ λ t. one_each (λ p. (n ≡ p.space) × (p.space < 3)) _ (refl, probe-small _ n e))
           (λ a f. no_value f)
-      go (refused k) e = λ a f. no_value f
+      go (Err k) e = λ a f. no_value f
 
-  pub probe-does : {p : Probes} {m' : List ℕ} {t : State} → plan_probe now status s ≡ accepted p → Probing m s p m' t →
-      Does (timeout_probe now status (connection_of m s)) (accepted (timeout_outcome 0 0)) m m' s t (state_by s (probe_at now status s) 0) (probe_words m (probe_at now status s) s)
+  pub probe-does : {p : Probes} {m' : List ℕ} {t : State} → plan_probe now status s ≡ Ok p → Probing m s p m' t →
+      Does (timeout_probe now status (connection_of m s)) (Ok (timeout_outcome 0 0)) m m' s t (state_by s (probe_at now status s) 0) (probe_words m (probe_at now status s) s)
   unfolding probed_words probed_state normal_of
   probe-does {p} {m'} {t} e pr =
       let c = chosen p e in
@@ -212,21 +215,21 @@ module _ (m : List ℕ) (full : length m ≡ all_words) (now : Moment) (status :
       (probed-fits m full p.space c.1 p.probes s))
       (joined m full p.space c.1 p.probes s p.shared))
 
-  pub probe-refused : plan_probe now status s ≡ refused TooLarge →
-      Does (timeout_probe now status (connection_of m s)) (refused TooLarge) m m s s (state_by s (probe_at now status s) 0) (probe_words m (probe_at now status s) s)
-  probe-refused e = does-refused m s (state_by s (probe_at now status s) 0) (probe_words m (probe_at now status s) s) _ TooLarge (probe-view ∙ rw e refl)
+  pub probe-refused : {k : Refusal} → plan_probe now status s ≡ Err k →
+      Does (timeout_probe now status (connection_of m s)) (Err k) m m s s (state_by s (probe_at now status s) 0) (probe_words m (probe_at now status s) s)
+  probe-refused {k} e = does-refused m s (state_by s (probe_at now status s) 0) (probe_words m (probe_at now status s) s) _ k (probe-view ∙ rw e refl)
 
 -- ---- for the code
 
-pub count-over : (n : ℕ) → 4294967295 ≤ n → leb (n + 1) 4294967295 ≡ false
-count-over n h = let z : 4294967295 < n + 1 = omega arith in lt-leb (n + 1) 4294967295 z
+pub count_over : (n : ℕ) → 4294967295 ≤ n → leb (n + 1) 4294967295 ≡ false
+count_over n h = let z : 4294967295 < n + 1 = omega arith in lt-leb (n + 1) 4294967295 z
 
 pub count_fits : (n : ℕ) → n < 4294967295 → leb (n + 1) 4294967295 ≡ true
 count_fits n h = let z : n + 1 ≤ 4294967295 = omega arith in le-leb (n + 1) 4294967295 z
 
 -- a queue that holds handles stays
 pub stays : (m : List ℕ) (n probes : ℕ) (q : SpaceState) → (q.lost_pto ≡ 0 → ⊥) → StoredFrom m n 2 q.lost_pto (queued_again m n probes q) q.lost_pto m
-unfolding queued_again store_all
+unfolding queued_again store_handles
 stays m n probes q some = rw (ne_eqb q.lost_pto 0 some) (record { count = omega arith; memory = refl })
 
 -- one that holds none is filled

@@ -1,23 +1,22 @@
 -- Where a timeout leaves what it changes, told from the connection after it. Definitions only.
-use Rattle.std.specs.Prelude.{ℕ, ◌+◌, ◌-◌, ◌%◌, List, length, drop}
+use Rattle.std.specs.Prelude.{ℕ, ◌+◌, ◌-◌, ◌%◌, List, length, drop, Result, Ok, Err, Option, Some, None}
 use Rattle.arith.specs.declared.time.Moment.{Moment}
-use Rattle.model.specs.Numbers.{Result, accepted, refused, capacity}
+use Rattle.model.specs.Numbers.{capacity}
 use Rattle.model.specs.Timer.{loss_time_and_space, probe_space}
 use Rattle.model.specs.Connection.{Connection, space_at}
 use Rattle.model.specs.declared.HandshakeStatus.{HandshakeStatus}
-use Rattle.model.specs.declared.Time.{Time}
-use Rattle.model.specs.declared.Time.TheVariants.{Unset, At}
 use Rattle.model.specs.declared.TimeAndSpace.{TimeAndSpace}
-use Rattle.records.specs.Probes.{store_all}
-use Rattle.marks.specs.Store.{store_marks, store_handles}
+use Rattle.records.specs.View.{store_handles}
+use Rattle.marks.specs.Store.{store_marks}
 use Rattle.connection.specs.View.{count, space_state_at}
 use Rattle.connection.specs.Steps.{facts_state}
 use Rattle.connection.specs.declared.State.{State}
+use Rattle.arith.specs.declared.refusal.Refusal.{Refusal}
 
 -- a refusal leaves nothing anywhere, so that its space does not count
-abbrev pub space_by : Result ℕ → ℕ
-space_by (accepted n) = n
-space_by (refused k) = 0
+abbrev pub space_by : Result ℕ Refusal → ℕ
+space_by (Ok n) = n
+space_by (Err k) = 0
 
 -- the space that gets probes
 unfoldable pub probe_at : Moment → HandshakeStatus → State → ℕ
@@ -25,7 +24,7 @@ probe_at now status s = space_by (probe_space (facts_state now status s))
 
 -- the handles that joined the PTO queue of space n stand behind those that it held; all else is as it was
 unfoldable pub probe_words : List ℕ → ℕ → State → Connection → List ℕ
-probe_words m n s c = store_all m n 2 (count (space_state_at n s).lost_pto) (drop (count (space_state_at n s).lost_pto) (space_at n c).lost_frames_pto)
+probe_words m n s c = store_handles m n 2 (count (space_state_at n s).lost_pto) (drop (count (space_state_at n s).lost_pto) (space_at n c).lost_frames_pto)
 
 -- the records of space n that stay lie where they lay, with their marks; the handles that joined the queue of those lost stand behind those that it held
 unfoldable pub loss_words : List ℕ → ℕ → State → Connection → List ℕ
@@ -39,17 +38,17 @@ loss_words m n s c =
 abbrev pub earliest_of : State → TimeAndSpace
 earliest_of s = loss_time_and_space s.initial.epoch s.handshake.epoch s.application.epoch
 
-abbrev pub space_of_timeout : Time → ℕ → ℕ → ℕ
-space_of_timeout (At t) lost probed = lost
-space_of_timeout Unset lost probed = probed
+abbrev pub space_of_timeout : Option Moment → ℕ → ℕ → ℕ
+space_of_timeout (Some t) lost probed = lost
+space_of_timeout None lost probed = probed
 
 -- the space that the timeout is about
 unfoldable pub timeout_at : Moment → HandshakeStatus → State → ℕ
 timeout_at now status s = space_of_timeout (earliest_of s).time (earliest_of s).space (probe_at now status s)
 
-abbrev pub words_of_timeout : Time → List ℕ → ℕ → State → Connection → List ℕ
-words_of_timeout (At t) m n s = loss_words m n s
-words_of_timeout Unset m n s = probe_words m n s
+abbrev pub words_of_timeout : Option Moment → List ℕ → ℕ → State → Connection → List ℕ
+words_of_timeout (Some t) m n s = loss_words m n s
+words_of_timeout None m n s = probe_words m n s
 
 unfoldable pub timeout_words : List ℕ → Moment → HandshakeStatus → State → Connection → List ℕ
 timeout_words m now status s = words_of_timeout (earliest_of s).time m (timeout_at now status s) s

@@ -1,4 +1,3 @@
 pub mod Probe
 pub mod Loss
-pub mod Says
 pub mod Claim

@@ -1,21 +1,24 @@
 -- A timeout without a loss time: what it decides over the state alone, and what it then stores. Definitions that serve the proofs: proofs/Probing.antt shows
 -- that together they are model's `timeout_probe` on what the words and the state stand for.
-use Rattle.std.specs.Prelude.{ℕ, ◌+◌, ◌%◌, min, ◌≡◌, cond, List, [], eqb, leb, length}
+use Rattle.std.specs.Prelude.{ℕ, ◌+◌, ◌%◌, min, ◌≡◌, cond, List, [], eqb, leb, length, Result, Ok, Err}
 use Rattle.arith.specs.declared.time.Moment.{Moment}
-use Rattle.model.specs.Numbers.{Result, accepted, refused, then, capacity}
+use Rattle.arith.specs.Refusals.{then}
+use Rattle.model.specs.Numbers.{capacity}
 use Rattle.model.specs.Timer.{timer_of, probe_space}
 use Rattle.model.specs.Connection.{with_timer}
 use Rattle.model.specs.Events.{shared_timeout}
 use Rattle.model.specs.declared.HandshakeStatus.{HandshakeStatus}
-use Rattle.model.specs.declared.Refusal.TheVariants.{TooLarge}
+use Rattle.arith.specs.declared.refusal.Refusal.TheVariants.{TooLarge}
 use Rattle.model.specs.declared.Shared.{Shared}
 use Rattle.records.specs.View.{records_of}
-use Rattle.records.specs.Probes.{probes_of, store_all}
+use Rattle.records.specs.Probes.{probes_of}
+use Rattle.records.specs.View.{store_handles}
 use Rattle.connection.specs.View.{count, normal_of, space_state_at, with_space_state}
 use Rattle.connection.specs.Steps.{facts_state, probed_space}
 use Rattle.connection.specs.declared.SpaceState.{SpaceState}
 use Rattle.connection.specs.declared.State.{State}
 use Rattle.timeout.specs.declared.probe.Probes.{Probes}
+use Rattle.arith.specs.declared.refusal.Refusal.{Refusal}
 
 -- ---- what is decided
 
@@ -29,16 +32,16 @@ granted_state now n pto s =
     let q = normal_of (space_state_at n s) in
     with_space_state n (probed_space (min pto 2) q.lost_pto q) (raised now pto s.shared) s
 
-unfoldable pub plan_granted : Moment → HandshakeStatus → ℕ → ℕ → State → Result Probes
+unfoldable pub plan_granted : Moment → HandshakeStatus → ℕ → ℕ → State → Result Probes Refusal
 plan_granted now status n pto s =
     then (timer_of (facts_state now status (granted_state now n pto s))) λ t.
-    accepted (record { space = n; probes = min pto 2; shared = with_timer t (raised now pto s.shared) })
+    Ok (record { space = n; probes = min pto 2; shared = with_timer t (raised now pto s.shared) })
 
 -- refusal 7: the PTO count passes 2^32-1
-unfoldable pub plan_probe : Moment → HandshakeStatus → State → Result Probes
+unfoldable pub plan_probe : Moment → HandshakeStatus → State → Result Probes Refusal
 plan_probe now status s =
     then (probe_space (facts_state now status s)) λ n.
-    cond (leb (s.shared.pto_count + 1) 4294967295) (plan_granted now status n (s.shared.pto_count + 1) s) (refused TooLarge)
+    cond (leb (s.shared.pto_count + 1) 4294967295) (plan_granted now status n (s.shared.pto_count + 1) s) (Err TooLarge)
 
 -- ---- what is stored
 
@@ -50,7 +53,7 @@ abbrev pub joining : List ℕ → State → Probes → List ℕ
 joining m s p = queued_again m p.space p.probes (normal_of (space_state_at p.space s))
 
 unfoldable pub probed_words : List ℕ → State → Probes → List ℕ
-probed_words m s p = store_all m p.space 2 (normal_of (space_state_at p.space s)).lost_pto (joining m s p)
+probed_words m s p = store_handles m p.space 2 (normal_of (space_state_at p.space s)).lost_pto (joining m s p)
 
 unfoldable pub probed_state : List ℕ → State → Probes → State
 probed_state m s p =

@@ -6,34 +6,21 @@ ghost use Rattle.std.specs.Prelude.{◌≡◌};
 ghost use Rattle.model.specs.Connection.{with_timer};
 ghost use Rattle.model.specs.Events.{shared_timeout, on_loss_detection_timeout};
 ghost use Rattle.connection.specs.View.{connection_of, state_by, Does};
-ghost use Rattle.timeout.specs.Says.{timeout_says};
 ghost use Rattle.timeout.specs.Claim.{timeout_at, timeout_words};
 
 use crate::loss::loss_timeout;
 use crate::probe::probe_timeout;
+use arith::refusal::Refusal;
 use arith::time::Moment;
-use connection::State;
+use connection::parts::refused;
+use connection::{Answer, State};
 use estimate::timer::loss_time_and_space;
 use front::clock::on_clock;
-use model::{Congestion, HandshakeStatus, OnLossDetectionTimeoutOutcome, Refusal, Shared, Time};
+use model::{Congestion, HandshakeStatus, OnLossDetectionTimeoutOutcome, Shared};
 use records::memory::Words;
 
 mod loss;
 mod probe;
-
-// What a timeout answers.
-#[derive(Clone, Copy)]
-pub enum TimeoutOutcome {
-    Accepted(OnLossDetectionTimeoutOutcome),
-    Refused(Refusal),
-}
-
-// The answer, and the state after it; after a refusal it is the state before.
-#[derive(Clone, Copy)]
-pub struct TimingOut {
-    pub outcome: TimeoutOutcome,
-    pub state: State,
-}
 
 // What the spaces share after a timeout at time, with this PTO count, these bytes in flight, this controller and this timer.
 fn shared_after(
@@ -42,22 +29,17 @@ fn shared_after(
     count: u64,
     bytes: u64,
     g: Congestion,
-    timer: Time,
+    timer: Option<Moment>,
 ) -> Shared
     ensures { result ≡ with_timer timer (shared_timeout time count bytes g s) }
 {
-    let rtt = s.rtt;
-    let reordering = s.reordering;
     Shared {
         clock: time,
         loss_timer: timer,
         pto_count: count,
-        rtt: rtt,
-        reordering: reordering,
         bytes_in_flight: bytes,
-        max_datagram_size: s.max_datagram_size,
-        outstanding_non_ack_eliciting: s.outstanding_non_ack_eliciting,
         congestion: g,
+        ..s
     }
 }
 
@@ -67,27 +49,15 @@ pub fn on_loss_detection_timeout(
     s: State,
     time: Moment,
     status: HandshakeStatus,
-) -> TimingOut
-    ensures { Does (on_loss_detection_timeout time status (connection_of m.old s)) (timeout_says result.outcome) m.old m.new s result.state (state_by s (timeout_at time status s) 0) (timeout_words m.old time status s) }
+) -> Answer<OnLossDetectionTimeoutOutcome>
+    ensures { Does (on_loss_detection_timeout time status (connection_of m.old s)) result.outcome m.old m.new s result.state (state_by s (timeout_at time status s) 0) (timeout_words m.old time status s) }
 {
-    let shared = s.shared;
-    let clock = shared.clock;
-    if !on_clock(clock, time) {
-        return TimingOut {
-            outcome: TimeoutOutcome::Refused(Refusal::Clock),
-            state: s,
-        };
+    if !on_clock(s.shared.clock, time) {
+        return refused(s, Refusal::Clock);
     }
-    let initial = s.initial;
-    let handshake = s.handshake;
-    let application = s.application;
-    let first = initial.epoch;
-    let second = handshake.epoch;
-    let third = application.epoch;
-    let earliest = loss_time_and_space(first, second, third);
-    let t = earliest.time;
-    match t {
-        Time::At(_) => loss_timeout(m, s, time, earliest.space, status),
-        Time::Unset => probe_timeout(m, s, time, status),
+    let earliest = loss_time_and_space(s.initial.epoch, s.handshake.epoch, s.application.epoch);
+    match earliest.time {
+        Some(_) => loss_timeout(m, s, time, earliest.space, status),
+        None => probe_timeout(m, s, time, status),
     }
 }

@@ -1,9 +1,7 @@
-pub mod Bodies
-pub mod Fields
-pub mod Events
 pub mod Standing
 pub mod Replay
 pub mod Holding
 pub mod Puts
 pub mod Digits
 pub mod Lines
+pub mod Fields

@@ -2,17 +2,17 @@
 use mathlib.Core.Logic.{⊎_elim}
 use mathlib.Core.Path.{◌≡◌, refl, sym, ◌∙◌}
 use mathlib.Core.Bool.{Bool, true, false, cond, ◌&&◌}
-use mathlib.Core.List.{List, [], ◌∷◌}
+use mathlib.Core.List.{List, ◌∷◌}
 use Prim.Native.Nat.{ℕ, ◌+◌, ◌-◌, ◌≤◌, ◌<◌}
 use native.Mathlib.Nat.{eq-zero-or-pos}
 use native.Mathlib.Numerals.{add-one}
 use native.Mathlib.Omega.{arith}
-use borrow.Author.Tests.{ltb-true, leb-true, lt-ltb, le-leb, lt-leb, ne_eqb}
+use borrow.Author.Tests.{ltb-true, leb-true, ne_eqb}
 use lib.Dec.{ltb, leb, eqb}
 use lib.ListN.{length, take, drop, get_or, length-drop, drop_of_length-le}
 use lib.Seq.{drop-cons}
-use Rattle.model.specs.Trace.{body_length, event_of}
-use Rattle.trace.specs.Reading.{event_read, range_of, whole, found_by, found_from, found_at, body_from, next_by, next_at}
+use Rattle.model.specs.Trace.{body_length}
+use Rattle.trace.specs.Reading.{whole, found_by, found_from, found_at, body_from, next_by, next_at}
 use Rattle.trace.specs.declared.Found.TheVariants as found
 
 -- ---- tests
@@ -28,13 +28,6 @@ both_right false b h = let z : ◌≡◌ {A = ℕ} 0 1 = cc in absurd (let w : �
 cond-some : (t : Bool) (n : ℕ) → (cond t n 0 ≡ 0 → ⊥) → t ≡ true
 cond-some true n h = refl
 cond-some false n h = absurd (h refl)
-
-cond-none : (t : Bool) (n : ℕ) → (t ≡ true → 0 < n) → cond t n 0 ≡ 0 → t ≡ false
-cond-none true n pos e = let h : 0 < n = pos refl in absurd (let w : ⊥ = omega arith in w)
-cond-none false n pos e = refl
-
-body-fits : (size room : ℕ) → size ≤ room → cond (ltb 0 size && leb size room) size 0 ≡ size
-body-fits size room h = ⊎_elim (λ z. rw z refl) (λ pos. rw (lt-ltb 0 size pos, le-leb size room h)) (eq-zero-or-pos size)
 
 module _ (l : List ℕ) (at : ℕ) where
   pub body_end : length l ≤ at → 0 ≡ body_from (drop at l)
@@ -81,20 +74,6 @@ module _ (l : List ℕ) (at : ℕ) where
     unfolding next_at next_by
     next-by h = let p : 0 < body_length kind = whole-some h in rw (body-by, h, ne_eqb (body_length kind) 0 (λ e. omega arith))
 
-    pub body-whole : (n : ℕ) → n ≡ body_length kind → n ≤ length l - at - 1 → n ≡ body_from (drop at l)
-    unfolding whole
-    body-whole n e le =
-        let b : length more ≡ length l - at - 1 = left in
-        e ∙ sym (body-by ∙ body-fits (body_length kind) (length more) (omega arith))
-
-    pub body-short : (n : ℕ) → n ≡ body_length kind → length l - at - 1 < n → 0 ≡ body_from (drop at l)
-    unfolding whole
-    body-short n e gt =
-        let b : length more ≡ length l - at - 1 = left in
-        let f : length more < body_length kind = omega arith in
-        let g : 0 < body_length kind = omega arith in
-        sym (body-by ∙ rw (lt-ltb 0 (body_length kind) g, lt-leb (body_length kind) (length more) f))
-
     -- a body stands, or none does
     module _ (some : body_from (drop at l) ≡ 0 → ⊥) where
       stands : whole kind more ≡ true
@@ -103,26 +82,8 @@ module _ (l : List ℕ) (at : ℕ) where
       pub stands-length : at + 1 + body_length kind ≤ length l
       stands-length = whole_length stands
 
-      pub stands-some : 0 < body_length kind
-      stands-some = whole-some stands
-
       pub stands-body : body_from (drop at l) ≡ body_length kind
       stands-body = rw (body-by, stands)
-
-      pub found-range : kind ≡ 2 → found.Range (range_of (take 16 more)) ≡ found_at l at
-      unfolding found_by body_length
-      found-range e = sym (found-by ∙ rw (stands, e))
-
-      pub found-event : (kind ≡ 2 → ⊥) → found.Event (event_read (event_of kind [] (take (body_length kind) more))) ≡ found_at l at
-      unfolding found_by
-      found-event e = sym (found-by ∙ rw (stands, ne_eqb kind 2 e))
-
-    module _ (none : body_from (drop at l) ≡ 0) where
-      pub found-bad : found.Bad ≡ found_at l at
-      unfolding found_by
-      found-bad =
-          let f : whole kind more ≡ false = cond-none (whole kind more) (body_length kind) whole-some (rw body-by at none) in
-          sym (found-by ∙ rw f)
 
   pub next-none : body_from (drop at l) ≡ 0 → length l ≡ next_at l at
   unfolding next_at next_by

@@ -1,5 +1,3 @@
 pub mod Says
 pub mod Reading
-pub mod Held
 pub mod Put
-pub mod Lines

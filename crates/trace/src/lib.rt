@@ -3,12 +3,12 @@
 #![tactic(auto)]
 
 use arith::time::Moment;
-use model::{HandshakeStatus, Number, Packet};
+use model::{HandshakeStatus, Packet};
 
 pub mod held;
 pub mod line;
-pub mod put;
 pub mod read;
+pub mod text;
 
 // What the bodies of the trace's kinds say: a packet sent, an ack on the held ranges, a timeout, a discarded space.
 #[derive(Clone, Copy)]
@@ -27,7 +27,7 @@ pub struct AckEvent {
     pub delay: u64,
     pub status: HandshakeStatus,
     pub limited: bool,
-    pub skipped: Number,
+    pub skipped: Option<u64>,
 }
 
 #[derive(Clone, Copy)]
@@ -70,11 +70,4 @@ pub enum Found {
     Bad,
     Range(Range),
     Event(Event),
-}
-
-// A line's bytes, its newline with them, and zeros behind.
-#[derive(Clone, Copy)]
-pub struct Text {
-    pub bytes: [u8; 96],
-    pub length: usize,
 }

@@ -1,15 +1,14 @@
 // What stands at an offset of a trace. 01 'Replay and the host'.
-ghost use Rattle.std.specs.Prelude.{[], ◌≡◌, ◌+◌, ◌≤◌, ◌<◌, length, take, drop};
-ghost use Rattle.model.specs.Trace.{big_endian, body_length, status_of, skipped_of, sent_of, ack_of, event_of};
-ghost use Rattle.trace.specs.Reading.{event_read, range_of, found_at, kind_at, body_from, next_at};
+ghost use Rattle.std.specs.Prelude.{[], ◌≡◌, ◌+◌, ◌≤◌, ◌<◌, IsTrue, length, drop};
+ghost use Rattle.model.specs.Trace.{big_endian, body_length, sent_of, ack_of, event_of};
+ghost use Rattle.trace.specs.Reading.{event_read, range_of, whole, found_from, found_at, kind_at, body_from, next_at};
 
 use crate::{AckEvent, DiscardEvent, Event, Found, Range, SentEvent, TimeoutEvent};
 use arith::time::Moment;
-use model::{HandshakeStatus, Number, Packet};
-
-const NONE_SKIPPED: u64 = 18446744073709551615;
+use model::coded::{is_odd, packet_of, skipped_of};
 
 // The length of a kind's body; 0 for an unknown kind.
+#[tactic(auto, unfolding(model::specs::Trace::body_length))]
 pub fn body_length(kind: u8) -> usize
     ensures { result ≡ body_length kind }
 {
@@ -25,134 +24,155 @@ pub fn body_length(kind: u8) -> usize
     }
 }
 
-fn wide(b: u8) -> u64
-    ensures { result ≡ b }
+// The number in so many bytes, big-endian.
+#[tactic(auto, unfolding(model::specs::Trace::big_endian))]
+fn number(bytes: &[u8]) -> u64
+    requires { length bytes.now ≤ 8 }
+    ensures { result ≡ big_endian 0 bytes.now }
 {
-    b as u64
-}
-
-// The number in so many bytes from a place on, big-endian.
-fn number_at(bytes: &[u8], at: usize, size: usize) -> u64
-    requires { (size ≤ 8) × (at + size ≤ length bytes.now) }
-    ensures { result ≡ big_endian 0 (take size (drop at bytes.now)) }
-{
-    let mut n: u64 = 0;
-    let mut i: usize = 0;
-    while i < size {
-        n = 256 * n + wide(bytes[at + i]);
-        i = i + 1;
+    let mut n = 0;
+    for &b in bytes {
+        n = 256 * n + u64::from(b);
     }
     n
 }
 
-// 1 keys, 2 verified, 4 completed.
-fn status_of(n: u64) -> HandshakeStatus
-    ensures { result ≡ status_of n }
-{
-    HandshakeStatus {
-        has_handshake_keys: n % 2 == 1,
-        peer_verified_address: n / 2 % 2 == 1,
-        completed: n / 4 % 2 == 1,
-    }
-}
-
-// All ones: none.
-fn skipped_of(n: u64) -> Number
-    ensures { result ≡ skipped_of n }
-{
-    if n == NONE_SKIPPED {
-        Number::Missing
-    } else {
-        Number::Is(n)
-    }
-}
-
 // 1 sent: now 8, space 1, number 8, size 2, flags 1, handle 8, status 1.
-fn sent_at(bytes: &[u8], at: usize) -> SentEvent
-    requires { at + 29 ≤ length bytes.now }
-    ensures { Event.Sent result ≡ event_read (sent_of (take 29 (drop at bytes.now))) }
+#[tactic(auto, using(crate::proofs::Fields::one_byte), unfolding(crate::specs::Reading::event_read, model::specs::Trace::sent_of))]
+fn sent(body: &[u8]) -> SentEvent
+    requires { length body.now ≡ 29 }
+    ensures { Event.Sent result ≡ event_read (sent_of body.now) }
 {
-    let flags = number_at(bytes, at + 19, 1);
-    let packet = Packet {
-        number: number_at(bytes, at + 9, 8),
-        size: number_at(bytes, at + 17, 2),
-        ack_eliciting: flags % 2 == 1,
-        in_flight: flags / 2 % 2 == 1,
-        has_data: flags / 4 % 2 == 1,
-        is_pmtud_probe: flags / 8 % 2 == 1,
-        handle: number_at(bytes, at + 20, 8),
-    };
     SentEvent {
-        time: Moment(number_at(bytes, at, 8)),
-        space: number_at(bytes, at + 8, 1),
-        packet,
-        status: status_of(number_at(bytes, at + 28, 1)),
+        time: Moment(number(&body[..8])),
+        space: number(&body[8..9]),
+        packet: packet_of(
+            number(&body[9..17]),
+            number(&body[17..19]),
+            body[19],
+            number(&body[20..28]),
+        ),
+        status: body[28].into(),
     }
 }
 
 // 2 range: start 8, end 8.
-fn range_at(bytes: &[u8], at: usize) -> Range
-    requires { at + 16 ≤ length bytes.now }
-    ensures { result ≡ range_of (take 16 (drop at bytes.now)) }
+#[tactic(auto, unfolding(crate::specs::Reading::range_of, model::specs::Trace::body_length))]
+fn range(body: &[u8]) -> Range
+    requires { length body.now ≡ body_length 2 }
+    ensures { result ≡ range_of body.now }
 {
     Range {
-        start: number_at(bytes, at, 8),
-        end: number_at(bytes, at + 8, 8),
+        start: number(&body[..8]),
+        end: number(&body[8..]),
     }
 }
 
 // 3 ack: now 8, space 1, delay µs 8, status 1, limited 1, skipped 8.
-fn ack_at(bytes: &[u8], at: usize) -> AckEvent
-    requires { at + 27 ≤ length bytes.now }
-    ensures { Event.Ack result ≡ event_read (ack_of [] (take 27 (drop at bytes.now))) }
+#[tactic(auto, unfolding(crate::specs::Reading::event_read, model::specs::Trace::ack_of))]
+fn ack(body: &[u8]) -> AckEvent
+    requires { length body.now ≡ 27 }
+    ensures { Event.Ack result ≡ event_read (ack_of [] body.now) }
 {
     AckEvent {
-        time: Moment(number_at(bytes, at, 8)),
-        space: number_at(bytes, at + 8, 1),
-        delay: number_at(bytes, at + 9, 8),
-        status: status_of(number_at(bytes, at + 17, 1)),
-        limited: number_at(bytes, at + 18, 1) % 2 == 1,
-        skipped: skipped_of(number_at(bytes, at + 19, 8)),
+        time: Moment(number(&body[..8])),
+        space: number(&body[8..9]),
+        delay: number(&body[9..17]),
+        status: body[17].into(),
+        limited: is_odd(body[18]),
+        skipped: skipped_of(number(&body[19..])),
     }
 }
 
 // 4 timeout: now 8, status 1.
-fn timeout_at(bytes: &[u8], at: usize) -> TimeoutEvent
-    requires { at + 9 ≤ length bytes.now }
-    ensures { Event.Timeout result ≡ event_read (event_of 4 [] (take 9 (drop at bytes.now))) }
+#[tactic(auto, unfolding(crate::specs::Reading::event_read, model::specs::Trace::event_of))]
+fn timeout(body: &[u8]) -> TimeoutEvent
+    requires { length body.now ≡ 9 }
+    ensures { Event.Timeout result ≡ event_read (event_of 4 [] body.now) }
 {
     TimeoutEvent {
-        time: Moment(number_at(bytes, at, 8)),
-        status: status_of(number_at(bytes, at + 8, 1)),
+        time: Moment(number(&body[..8])),
+        status: body[8].into(),
     }
 }
 
 // 5 discard: now 8, space 1, status 1.
-fn discard_at(bytes: &[u8], at: usize) -> DiscardEvent
-    requires { at + 10 ≤ length bytes.now }
-    ensures { Event.Discard result ≡ event_read (event_of 5 [] (take 10 (drop at bytes.now))) }
+#[tactic(auto, unfolding(crate::specs::Reading::event_read, model::specs::Trace::event_of))]
+fn discard(body: &[u8]) -> DiscardEvent
+    requires { length body.now ≡ 10 }
+    ensures { Event.Discard result ≡ event_read (event_of 5 [] body.now) }
 {
     DiscardEvent {
-        time: Moment(number_at(bytes, at, 8)),
-        space: number_at(bytes, at + 8, 1),
-        status: status_of(number_at(bytes, at + 9, 1)),
+        time: Moment(number(&body[..8])),
+        space: number(&body[8..9]),
+        status: body[9].into(),
     }
 }
 
-// The event of a kind whose whole body begins at a place. 6 size 2; 7, 8, 9: take acked, take lost, ping; space 1.
-fn event_at(bytes: &[u8], kind: u8, at: usize) -> Event
-    requires { (0 < body_length kind) × (at + body_length kind ≤ length bytes.now) }
-    ensures { result ≡ event_read (event_of kind [] (take (body_length kind) (drop at bytes.now))) }
+// The event of a kind with its whole body. 6 size 2; 7, 8, 9: take acked, take lost, ping; space 1.
+#[tactic(auto, unfolding(crate::specs::Reading::event_read, model::specs::Trace::event_of, model::specs::Trace::body_length))]
+fn event(kind: u8, body: &[u8]) -> Event
+    requires { (0 < body_length kind) × (length body.now ≡ body_length kind) }
+    ensures { result ≡ event_read (event_of kind [] body.now) }
 {
     match kind {
-        1 => Event::Sent(sent_at(bytes, at)),
-        3 => Event::Ack(ack_at(bytes, at)),
-        4 => Event::Timeout(timeout_at(bytes, at)),
-        5 => Event::Discard(discard_at(bytes, at)),
-        6 => Event::Size(number_at(bytes, at, 2)),
-        7 => Event::TakeAcked(number_at(bytes, at, 1)),
-        8 => Event::TakeLost(number_at(bytes, at, 1)),
-        _ => Event::Ping(number_at(bytes, at, 1)),
+        1 => Event::Sent(sent(body)),
+        3 => Event::Ack(ack(body)),
+        4 => Event::Timeout(timeout(body)),
+        5 => Event::Discard(discard(body)),
+        6 => Event::Size(number(body)),
+        7 => Event::TakeAcked(number(body)),
+        8 => Event::TakeLost(number(body)),
+        _ => Event::Ping(number(&body[..1])),
+    }
+}
+
+// The bytes from an offset on, none past the end.
+fn from(bytes: &[u8], at: usize) -> &[u8]
+    ensures { result.now ≡ drop at bytes.now }
+{
+    bytes.get(at..).unwrap_or(&[])
+}
+
+// Whether a kind is known and as many bytes follow as its body has.
+#[tactic(auto, unfolding(crate::specs::Reading::whole))]
+fn is_whole(kind: u8, more: &[u8]) -> bool
+    ensures whole { result ≡ whole kind more.now }
+    ensures fits { IsTrue result → (0 < body_length kind) × (body_length kind ≤ length more.now) }
+{
+    let size = body_length(kind);
+    0 < size && size <= more.len()
+}
+
+#[tactic(auto, unfolding(crate::specs::Reading::found_from, crate::specs::Reading::found_by))]
+fn found(bytes: &[u8]) -> Found
+    ensures { result ≡ found_from bytes.now }
+{
+    let [kind, more @ ..] = bytes else {
+        return Found::End;
+    };
+    if !is_whole(*kind, more) {
+        return Found::Bad;
+    }
+    let body = &more[..body_length(*kind)];
+    if *kind == 2 {
+        return Found::Range(range(body));
+    }
+    Found::Event(event(*kind, body))
+}
+
+#[tactic(auto, unfolding(crate::specs::Reading::body_from))]
+fn body_size(bytes: &[u8]) -> usize
+    ensures size { result ≡ body_from bytes.now }
+    ensures inside { 0 < result → result < length bytes.now }
+{
+    let [kind, more @ ..] = bytes else {
+        return 0;
+    };
+    if is_whole(*kind, more) {
+        body_length(*kind)
+    } else {
+        0
     }
 }
 
@@ -160,46 +180,22 @@ fn event_at(bytes: &[u8], kind: u8, at: usize) -> Event
 pub fn kind_at(bytes: &[u8], at: usize) -> u8
     ensures { result ≡ kind_at bytes.now at }
 {
-    if at < bytes.len() { bytes[at] } else { 0 }
-}
-
-// The length of the whole body that stands after the kind byte at an offset; 0 where none does.
-fn body_at(bytes: &[u8], at: usize) -> usize
-    ensures { result ≡ body_from (drop at bytes.now) }
-{
-    if bytes.len() <= at {
-        return 0;
-    }
-    let size = body_length(bytes[at]);
-    if size <= bytes.len() - at - 1 {
-        size
-    } else {
-        0
-    }
+    bytes.get(at).copied().unwrap_or(0)
 }
 
 // What stands at an offset. 01 Replay and the host
 pub fn find(bytes: &[u8], at: usize) -> Found
     ensures { result ≡ found_at bytes.now at }
 {
-    if bytes.len() <= at {
-        return Found::End;
-    }
-    if body_at(bytes, at) == 0 {
-        return Found::Bad;
-    }
-    let kind = bytes[at];
-    if kind == 2 {
-        return Found::Range(range_at(bytes, at + 1));
-    }
-    Found::Event(event_at(bytes, kind, at + 1))
+    found(from(bytes, at))
 }
 
 // The offset after what stands at an offset; the end of the bytes where nothing does.
+#[tactic(auto, unfolding(crate::specs::Reading::next_at, crate::specs::Reading::next_by))]
 pub fn next(bytes: &[u8], at: usize) -> usize
     ensures { result ≡ next_at bytes.now at }
 {
-    let size = body_at(bytes, at);
+    let size = body_size(from(bytes, at));
     if size == 0 {
         bytes.len()
     } else {

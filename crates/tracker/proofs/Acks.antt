@@ -9,7 +9,8 @@ use lib.ListN.{length}
 use borrow.Author.Tests.{eq-eqb}
 use Rattle.arith.specs.declared.time.Moment.{Moment}
 use Rattle.arith.specs.declared.time.Span.{Span}
-use Rattle.model.specs.Numbers.{Result, accepted, refused, then, capacity}
+use Rattle.arith.specs.Refusals.{then}
+use Rattle.model.specs.Numbers.{capacity}
 use Rattle.model.specs.Ranges.{largest_for}
 use Rattle.model.specs.Sent.{drained, covered}
 use Rattle.model.specs.Ack.{Met, Acked, reordered}
@@ -20,20 +21,15 @@ use Rattle.model.specs.Events.{Step, any_eliciting, stored_largest, sampled, epo
 use Rattle.model.specs.declared.Congestion.{Congestion}
 use Rattle.model.specs.declared.Epoch.{Epoch}
 use Rattle.model.specs.declared.HandshakeStatus.{HandshakeStatus}
-use Rattle.model.specs.declared.Number.{Number}
-use Rattle.model.specs.declared.Number.TheVariants.{Missing, Is}
 use Rattle.model.specs.declared.OnAckReceivedOutcome.{OnAckReceivedOutcome}
 use Rattle.model.specs.declared.Reordering.{Reordering}
 use Rattle.model.specs.declared.Rtt.{Rtt}
 use Rattle.model.specs.declared.Sent.{Sent}
 use Rattle.model.specs.declared.Shared.{Shared}
-use Rattle.model.specs.declared.Time.{Time}
 use Rattle.records.specs.View.{all_words, ring, queue_of}
 use Rattle.records.proofs.Laws.{length-queue}
 use Rattle.marks.specs.Marks.{held_at, newly_of, acked_all, handles_of, standing_of}
 use Rattle.marks.specs.Survey.{survey}
-use Rattle.marks.specs.declared.Surveyed.{Surveyed}
-use Rattle.marks.specs.declared.Surveyed.TheVariants as S
 use Rattle.marks.specs.declared.Tally.{Tally}
 use Rattle.marks.proofs.Split.{met_by, finish, split}
 use Rattle.marks.proofs.Lost.{settled-ring-past}
@@ -49,13 +45,15 @@ use Rattle.connection.proofs.Views.{by-space, space-view}
 use Rattle.connection.proofs.Steps.{normal-view, timed-view}
 use Rattle.tracker.specs.declared.Plan.{Plan}
 use Rattle.tracker.specs.declared.Losses.{Losses}
-use Rattle.tracker.specs.Plan.{Shown, shown, on_survey, start_tally, kept_space, sampled_by, flags, held, acked_place, first_left, plan_losses, plan_nothing, moves_of, space_planned, plan_timed, plan_some, plan_ack}
+use Rattle.tracker.specs.Plan.{Shown, shown, start_tally, kept_space, sampled_by, flags, held, acked_place, first_left, plan_losses, plan_nothing, moves_of, space_planned, plan_timed, plan_some, plan_ack}
 use Rattle.tracker.proofs.Chains.{then-then}
 use Rattle.tracker.proofs.Detecting.{Ends, ends, losses-view, after, detection}
 use Rattle.tracker.proofs.Kept.{stored, kept-view, whole-kept}
+use Rattle.std.specs.Prelude.{Result, Ok, Err, Option, Some, None}
+use Rattle.arith.specs.declared.refusal.Refusal.{Refusal}
 
 -- what is learnt of a survey that fits
-pub record Surveys (m : List ℕ) (n : ℕ) (q : SpaceState) (fs : List ℕ) (t : Tally) : Type 0 where
+pub record Surveys (m : List ℕ) (n : ℕ) (q : SpaceState) (fs : List Bool) (t : Tally) : Type 0 where
   pub newly : t.newly ≡ length (newly_of (flags m n q fs) (held m n q fs))
   pub queued : t.queued ≡ q.acked + length (newly_handles m n q.head fs q.len)
   pub room : t.queued ≤ capacity
@@ -63,12 +61,12 @@ pub record Surveys (m : List ℕ) (n : ℕ) (q : SpaceState) (fs : List ℕ) (t 
   pub last : (t.newly ≡ 0 → ⊥) → (l : List Sent) × (newly_of (flags m n q fs) (held m n q fs) ≡ l ++ (held_at m n q.head t.last ∷ []))
 
 -- a distance past what a word holds is past 20 as well
-reordered-fit : (d : Number) (n : ℕ) (o : Reordering) → reordered (fit_number d) n o ≡ reordered d n o
+reordered-fit : (d : Option ℕ) (n : ℕ) (o : Reordering) → reordered (fit_number d) n o ≡ reordered d n o
 unfolding reordered
-reordered-fit Missing n o = refl
-reordered-fit (Is d) n o = let e : min (min d 18446744073709551615) 20 ≡ min d 20 = omega arith in simp e
+reordered-fit None n o = refl
+reordered-fit (Some d) n o = let e : min (min d 18446744073709551615) 20 ≡ min d 20 = omega arith in simp e
 
-module _ (m : List ℕ) (full : length m ≡ all_words) (n : ℕ) (nn : n < 3) (s : State) (fs words : List ℕ) (now : Moment) (delay : Span) (status : HandshakeStatus) (limited : Bool) where
+module _ (m : List ℕ) (full : length m ≡ all_words) (n : ℕ) (nn : n < 3) (s : State) (fs : List Bool) (words : List ℕ) (now : Moment) (delay : Span) (status : HandshakeStatus) (limited : Bool) where
   abbrev q : SpaceState
   q = normal_of (space_state_at n s)
 
@@ -96,9 +94,9 @@ module _ (m : List ℕ) (full : length m ≡ all_words) (n : ℕ) (nn : n < 3) (
       space-view m s n nn ∙ sym (normal-view m n (space_state_at n s)) ∙ rw (a, b, d, e, held-records m n q.head q.len) refl
 
   -- what a plan leaves
-  abbrev pub shown_by : Plan → Result (Shown OnAckReceivedOutcome)
+  abbrev pub shown_by : Plan → Result (Shown OnAckReceivedOutcome) Refusal
   shown_by p =
-      accepted
+      Ok
       (record {
         state = connection_of (stored m full n q fs now p.from p.stop p.keep) (with_space_state n p.space p.shared s);
         answer = p.outcome;
@@ -117,14 +115,14 @@ module _ (m : List ℕ) (full : length m ≡ all_words) (n : ℕ) (nn : n < 3) (
   unfolding normal_of
   pto-fits = omega arith
 
-  shown-then : {A : Type 0} (x : Result A) (f : A → Result (Step OnAckReceivedOutcome)) → shown (then x f) ≡ then x (λ a. shown (f a))
-  shown-then (accepted a) f = refl
-  shown-then (refused k) f = refl
+  shown-then : {A : Type 0} (x : Result A Refusal) (f : A → Result (Step OnAckReceivedOutcome) Refusal) → shown (then x f) ≡ then x (λ a. shown (f a))
+  shown-then (Ok a) f = refl
+  shown-then (Err k) f = refl
 
-  shown_by_lem : {A B : Type 0} (x : Result A) (f : A → B) (g : B → Result (Step OnAckReceivedOutcome)) →
-      shown (then (then x (λ a. accepted (f a))) g) ≡ then x (λ a. shown (g (f a)))
-  shown_by_lem (accepted a) f g = refl
-  shown_by_lem (refused k) f g = refl
+  shown_by_lem : {A B : Type 0} (x : Result A Refusal) (f : A → B) (g : B → Result (Step OnAckReceivedOutcome) Refusal) →
+      shown (then (then x (λ a. Ok (f a))) g) ≡ then x (λ a. shown (g (f a)))
+  shown_by_lem (Ok a) f g = refl
+  shown_by_lem (Err k) f g = refl
 
   gone-none : (from : ℕ) → gone_handles m n q.head fs from from ≡ []
   unfolding handles_of standing_of ring
@@ -167,11 +165,11 @@ module _ (m : List ℕ) (full : length m ≡ all_words) (n : ℕ) (nn : n < 3) (
         rw space-here
         (shown-then (control (forgive_by t.spurious_in_flight) s.shared.congestion) _
         ∙ then-then shown_by (control (forgive_by t.spurious_in_flight) s.shared.congestion) _ _ λ g e.
-        ap (λ (d : Connection). accepted (record { state = d; answer = outcome 0 0 0 0 }))
+        ap (λ (d : Connection). Ok (record { state = d; answer = outcome 0 0 0 0 }))
         (whole-kept m full n q fs now from from from s nn _ _ _ space-nothing))
 
   -- the timer's state is the space's, the other spaces' and what is shared
-  armed-at : (p : SpaceState) (shared : Shared) (t : Time) → armed t (with_space_state n p shared s) ≡ with_space_state n p (with_timer t shared) s
+  armed-at : (p : SpaceState) (shared : Shared) (t : Option Moment) → armed t (with_space_state n p shared s) ≡ with_space_state n p (with_timer t shared) s
   unfolding armed with_space_state
   armed-at p shared t = by-space (λ k. armed t (with_space_state k p shared s) ≡ with_space_state k p (with_timer t shared) s) refl refl refl n nn
 
@@ -186,8 +184,8 @@ module _ (m : List ℕ) (full : length m ≡ all_words) (n : ℕ) (nn : n < 3) (
 
   -- 5 and 6: some newly acked
   module _ (t : Tally) (sv : Surveys m n q fs t) (o : Reordering) (from : ℕ) (fits : from ≤ q.len) (last : Sent) where
-    abbrev largest : Number
-    largest = Is (stored_largest q.epoch.largest_acked_packet last)
+    abbrev largest : Option ℕ
+    largest = Some (stored_largest q.epoch.largest_acked_packet last)
 
     abbrev epoch : Epoch
     epoch = epoch_acked t.in_flight largest q.epoch
@@ -218,7 +216,7 @@ module _ (m : List ℕ) (full : length m ≡ all_words) (n : ℕ) (nn : n < 3) (
       space-some =
           kept-view m full n q fs now from l.stop l.keep _ t.queued l.tally.queued sv.queued sv.room en.handles (en.room lost-fits) len-fits pto-fits
 
-      ended : (time : Time) →
+      ended : (time : Option Moment) →
           with_space n (drained_again now rtt (space_at n (connection_of words' (with_space_state n planned (with_timer time shared) s))))
           (connection_of words' (with_space_state n planned (with_timer time shared) s))
           ≡ connection_of words' (with_space_state n planned (with_timer time shared) s)
@@ -231,7 +229,7 @@ module _ (m : List ℕ) (full : length m ≡ all_words) (n : ℕ) (nn : n < 3) (
       timed-some :
           then (timed now status (with_shared shared (with_space n (after m n q fs now from fits acks again epoch l) c)))
           (λ e.
-          accepted
+          Ok
           (record {
             state = with_space n (drained_again now rtt (space_at n e)) e;
             answer = outcome l.tally.packets l.tally.bytes t.acked_bytes t.spurious;
@@ -242,20 +240,20 @@ module _ (m : List ℕ) (full : length m ≡ all_words) (n : ℕ) (nn : n < 3) (
           rw (whole-kept m full n q fs now from l.stop l.keep s nn planned _ shared space-some, timed-view words' now status (with_space_state n planned shared s))
           (go (timer_of (facts_state now status (with_space_state n planned shared s))))
         where
-          finish_with : Connection → Result (Shown OnAckReceivedOutcome)
+          finish_with : Connection → Result (Shown OnAckReceivedOutcome) Refusal
           finish_with e =
-              accepted
+              Ok
               (record {
                 state = with_space n (drained_again now rtt (space_at n e)) e;
                 answer = outcome l.tally.packets l.tally.bytes t.acked_bytes t.spurious;
               })
 
-          go : (x : Result Time) →
-              then (then (then x (λ time. accepted (armed time (with_space_state n planned shared s)))) (λ u. accepted (connection_of words' u))) finish_with
+          go : (x : Result (Option Moment) Refusal) →
+              then (then (then x (λ time. Ok (armed time (with_space_state n planned shared s)))) (λ u. Ok (connection_of words' u))) finish_with
               ≡ then
               (then x
               (λ time.
-              accepted
+              Ok
               (record {
                 space = planned;
                 shared = with_timer time shared;
@@ -265,13 +263,13 @@ module _ (m : List ℕ) (full : length m ≡ all_words) (n : ℕ) (nn : n < 3) (
                 keep = l.keep;
               })))
               shown_by
-          go (accepted time) =
+          go (Ok time) =
               rw (armed-at planned shared time)
               (ap
               (λ (d : Connection).
-              accepted (record { state = d; answer = outcome l.tally.packets l.tally.bytes t.acked_bytes t.spurious }))
+              Ok (record { state = d; answer = outcome l.tally.packets l.tally.bytes t.acked_bytes t.spurious }))
               (ended time))
-          go (refused k) = refl
+          go (Err k) = refl
 
     some-view : shown (acked_some now n delay status limited (ring (acked_place m n q fs) from (q.len - from)) (met t) last o c)
         ≡ then (plan_some m n q fs now delay status limited t last o from s) shown_by
@@ -343,7 +341,7 @@ module _ (m : List ℕ) (full : length m ≡ all_words) (n : ℕ) (nn : n < 3) (
 
   -- an acknowledgement is its plan, carried out
   pub ack-view : covered words (held m n q fs) ≡ flags m n q fs →
-      ((t : Tally) → survey (largest_for q.epoch.largest_acked_packet words) 0 (flags m n q fs) (held m n q fs) (start_tally q) ≡ S.Fits t → Surveys m n q fs t) →
+      ((t : Tally) → survey (largest_for q.epoch.largest_acked_packet words) 0 (flags m n q fs) (held m n q fs) (start_tally q) ≡ Ok t → Surveys m n q fs t) →
       shown (acknowledge now n words delay status limited c) ≡ then (plan_ack m n q fs now words delay status limited s) shown_by
   unfolding acknowledge plan_ack connection_of finish
   ack-view cov svs =
@@ -358,29 +356,29 @@ module _ (m : List ℕ) (full : length m ≡ all_words) (n : ℕ) (nn : n < 3) (
             acked_bytes = 0;
             in_flight = q.epoch.in_flight_count;
             spurious = 0;
-            distance = Missing;
+            distance = None;
             spurious_in_flight = false;
           }
 
-      go_on : Acked → Result (Step OnAckReceivedOutcome)
+      go_on : Acked → Result (Step OnAckReceivedOutcome) Refusal
       go_on a =
           then (reordered a.met.distance a.met.spurious s.shared.reordering) λ o.
           acked_by a.met.newly now n delay status limited (drained now smoothed a.records) a.met o c
 
-      plan : Tally → Result Plan
+      plan : Tally → Result Plan Refusal
       plan t =
           then (reordered t.distance t.spurious s.shared.reordering) λ o.
           cond (eqb t.newly 0) (plan_nothing q now t o (first smoothed) s.shared)
           (plan_some m n q fs now delay status limited t (held_at m n q.head t.last) o (first smoothed) s)
 
-      surveyed : (x : Surveyed) → survey (largest_for q.epoch.largest_acked_packet words) 0 (flags m n q fs) (held m n q fs) (start_tally q) ≡ x →
+      surveyed : (x : Result Tally Refusal) → survey (largest_for q.epoch.largest_acked_packet words) 0 (flags m n q fs) (held m n q fs) (start_tally q) ≡ x →
           shown
           (then (finish x (acked_all (flags m n q fs) (held m n q fs)) (queue_of m n 0 q.acked ++ newly_handles m n q.head fs q.len) (newly_of (flags m n q fs) (held m n q fs)))
           go_on)
-          ≡ then (on_survey (fitted x) plan) shown_by
-      surveyed (S.Fits t) e =
+          ≡ then (then (fitted x) plan) shown_by
+      surveyed (Ok t) e =
           rw (acked-ring m n q.head fs 0 q.len, first-drained smoothed, reordered-fit t.distance t.spurious s.shared.reordering)
           (shown-then (reordered t.distance t.spurious s.shared.reordering) _
           ∙ then-then shown_by (reordered t.distance t.spurious s.shared.reordering) _ _ λ o f.
-          rest-view t (svs t e) o (eqb t.newly 0) refl ∙ ap (λ (r : Result Plan). then r shown_by) (same-plan t o))
-      surveyed (S.Refused k) e = refl
+          rest-view t (svs t e) o (eqb t.newly 0) refl ∙ ap (λ (r : Result Plan Refusal). then r shown_by) (same-plan t o))
+      surveyed (Err k) e = refl

@@ -11,7 +11,8 @@ use borrow.Author.Tests.{ltb-true, leb-true}
 use Rattle.arith.specs.Whole.{limit, times_of}
 use Rattle.arith.specs.declared.time.Moment.{Moment}
 use Rattle.arith.specs.declared.time.Span.{Span}
-use Rattle.model.specs.Numbers.{Result, accepted, refused, then, must, on_clock, is_space, capacity}
+use Rattle.arith.specs.Refusals.{then, must}
+use Rattle.model.specs.Numbers.{on_clock, is_space, capacity}
 use Rattle.model.specs.Ranges.{are_ranges, hold_skipped, is_skipped, largest_for}
 use Rattle.model.specs.Sent.{covered}
 use Rattle.model.specs.Ack.{reordered}
@@ -21,10 +22,8 @@ use Rattle.model.specs.Connection.{Connection, space_at}
 use Rattle.model.specs.Events.{Step, stored_largest, acknowledge, on_ack_received}
 use Rattle.model.specs.declared.Epoch.{Epoch}
 use Rattle.model.specs.declared.HandshakeStatus.{HandshakeStatus}
-use Rattle.model.specs.declared.Number.{Number}
-use Rattle.model.specs.declared.Number.TheVariants.{Is}
-use Rattle.model.specs.declared.Refusal.{Refusal}
-use Rattle.model.specs.declared.Refusal.TheVariants.{Clock, Domain, Ranges, Skipped}
+use Rattle.arith.specs.declared.refusal.Refusal.{Refusal}
+use Rattle.arith.specs.declared.refusal.Refusal.TheVariants.{Clock, Domain, Ranges, Skipped}
 use Rattle.model.specs.declared.Reordering.{Reordering}
 use Rattle.model.specs.declared.Sent.{Sent}
 use Rattle.records.specs.View.{all_words, ring, records_of, queue_of}
@@ -34,13 +33,11 @@ use Rattle.front.specs.Checked.{checked_ack}
 use Rattle.marks.specs.Marks.{flagged, held_at, settled_at, newly_of, handles_of, standing_of}
 use Rattle.marks.specs.Survey.{survey}
 use Rattle.marks.specs.declared.Covered.{Covered}
-use Rattle.marks.specs.declared.Surveyed.{Surveyed}
-use Rattle.marks.specs.declared.Surveyed.TheVariants as S
 use Rattle.marks.specs.declared.Tally.{Tally}
 use Rattle.marks.proofs.Rings.{held-records}
 use Rattle.acks.specs.Cover.{Covers}
 use Rattle.acks.specs.Fitted.{fit, fitted}
-use Rattle.acks.proofs.Laws.{tallied, newly-some, covers-off, cover-ring}
+use Rattle.acks.proofs.Laws.{tallied, newly-some, cover-ring}
 use Rattle.commit.specs.Commit.{newly_handles, gone_handles, committed, Committed}
 use Rattle.commit.specs.declared.Queues.{Queues}
 use Rattle.commit.proofs.Laws.{commit-memory}
@@ -51,34 +48,35 @@ use Rattle.connection.proofs.Results.{must-then, reach-then}
 use Rattle.connection.proofs.Placed.{Fits, Each, placed-view, one_each, cond-each, then-each, does-refused}
 use Rattle.tracker.specs.declared.Plan.{Plan}
 use Rattle.tracker.specs.Event.{ack_words}
-use Rattle.tracker.specs.Plan.{Shown, shown, on_survey, start_tally, kept_space, flags, held, sampled_by, plan_losses, plan_nothing, plan_timed, plan_some, plan_met, plan_ack}
+use Rattle.tracker.specs.Plan.{Shown, shown, start_tally, kept_space, flags, held, sampled_by, plan_losses, plan_nothing, plan_timed, plan_some, plan_met, plan_ack}
 use Rattle.tracker.proofs.Detecting as detecting
 use Rattle.tracker.proofs.Kept.{stored, kept_as, kept-view}
 use Rattle.tracker.proofs.Acks.{Surveys, shown_by, space-of, ack-view}
 use Rattle.tracker.proofs.Decided.{first_fits, first-left}
+use Rattle.std.specs.Prelude.{Result, Ok, Err, Option, Some}
 
 -- ---- an event's claim, from its step as an outsider sees it
 
-clash : {A : Type 0} {B : Type 0} {k : Refusal} {a : A} → refused k ≡ accepted a → B
+clash : {A : Type 0} {B : Type 0} {k : Refusal} {a : A} → Err k ≡ Ok a → B
 clash e = absurd (let z : ◌≡◌ {A = ℕ} 0 1 = cc in let w : ⊥ = omega arith in w)
 
 module _ {A : Type 0} (m : List ℕ) (s : State) (place : Connection → State) (words : Connection → List ℕ) where
-  shown-does : (d : Result (Step A)) (m' : List ℕ) (t : State) (a : A) → shown d ≡ accepted (record { state = connection_of m' t; answer = a }) →
-      t ≡ place (connection_of m' t) → m' ≡ words (connection_of m' t) → Does d (accepted a) m m' s t place words
-  shown-does (accepted x) m' t a e p w =
+  shown-does : (d : Result (Step A) Refusal) (m' : List ℕ) (t : State) (a : A) → shown d ≡ Ok (record { state = connection_of m' t; answer = a }) →
+      t ≡ place (connection_of m' t) → m' ≡ words (connection_of m' t) → Does d (Ok a) m m' s t place words
+  shown-does (Ok x) m' t a e p w =
       let z : ◌≡◌ {A = Shown A} (record { state = x.state; answer = x.answer }) (record { state = connection_of m' t; answer = a }) = cc in
       let c : x.state ≡ connection_of m' t = ap (λ (v : Shown A). v.state) z in
       let b : x.answer ≡ a = ap (λ (v : Shown A). v.answer) z in
       record { answer = rw b refl; leaves = record { stands = sym c; placed = rw c p; stored = rw c w } }
-  shown-does (refused k) m' t a e p w = clash e
+  shown-does (Err k) m' t a e p w = clash e
 
-  shown-refused : (d : Result (Step A)) (k : Refusal) → shown d ≡ refused k → d ≡ refused k
-  shown-refused (accepted x) k e = clash (sym e)
-  shown-refused (refused j) k e = let z : j ≡ k = cc in rw z refl
+  shown-refused : (d : Result (Step A) Refusal) (k : Refusal) → shown d ≡ Err k → d ≡ Err k
+  shown-refused (Ok x) k e = clash (sym e)
+  shown-refused (Err j) k e = let z : j ≡ k = cc in rw z refl
 
 -- ---- what holds of each plan: its space is kept as `Kept` says, and its places lie among the records
 
-pub record Carries (m : List ℕ) (n : ℕ) (q : SpaceState) (fs : List ℕ) (p : Plan) : Type 0 where
+pub record Carries (m : List ℕ) (n : ℕ) (q : SpaceState) (fs : List Bool) (p : Plan) : Type 0 where
   pub acked : ℕ
   pub lost : ℕ
   pub epoch : Epoch
@@ -91,11 +89,11 @@ pub record Carries (m : List ℕ) (n : ℕ) (q : SpaceState) (fs : List ℕ) (p 
   pub keep : p.keep ≤ q.len
 
 module _ {A : Type 0} (P : A → Type 0) where
-  then-known : {B : Type 0} (x : Result B) (f : B → Result A) → ((b : B) → x ≡ accepted b → Each P (f b)) → Each P (then x f)
-  then-known (accepted b) f h = h b refl
-  then-known (refused k) f h = λ a e. clash e
+  then-known : {B : Type 0} (x : Result B Refusal) (f : B → Result A Refusal) → ((b : B) → x ≡ Ok b → Each P (f b)) → Each P (then x f)
+  then-known (Ok b) f h = h b refl
+  then-known (Err k) f h = λ a e. clash e
 
-module _ (m : List ℕ) (n : ℕ) (q : SpaceState) (fs : List ℕ) (len : q.len ≤ capacity) (lost : q.lost_ack ≤ capacity)
+module _ (m : List ℕ) (n : ℕ) (q : SpaceState) (fs : List Bool) (len : q.len ≤ capacity) (lost : q.lost_ack ≤ capacity)
     (now : Moment) (delay : Span) (status : HandshakeStatus) (limited : Bool) (s : State) where
   abbrev C : Plan → Type 0
   C = Carries m n q fs
@@ -127,8 +125,8 @@ module _ (m : List ℕ) (n : ℕ) (q : SpaceState) (fs : List ℕ) (len : q.len 
     unfolding plan_some plan_timed
     some-carries last =
         then-each C (sampled_by now delay status _ last _ _) _ λ rtt.
-        then-known C (plan_losses m n q fs now rtt o (Is (stored_largest q.epoch.largest_acked_packet last)) t.in_flight from) _ λ l e.
-        let en = detecting.ends m n q fs now rtt o (Is (stored_largest q.epoch.largest_acked_packet last)) t.in_flight from le l e in
+        then-known C (plan_losses m n q fs now rtt o (Some (stored_largest q.epoch.largest_acked_packet last)) t.in_flight from) _ λ l e.
+        let en = detecting.ends m n q fs now rtt o (Some (stored_largest q.epoch.largest_acked_packet last)) t.in_flight from le l e in
         then-each C (control _ s.shared.congestion) _ λ g.
         then-each C (timer_of _) _ λ time.
         one_each C _
@@ -153,10 +151,10 @@ module _ (m : List ℕ) (n : ℕ) (q : SpaceState) (fs : List ℕ) (len : q.len 
       cond-each C (eqb t.newly 0) _ _ (nothing-carries t queued room o _ le) (some-carries t queued room o _ le _)
 
   module _ (words : List ℕ)
-      (svs : (t : Tally) → survey (largest_for q.epoch.largest_acked_packet words) 0 (flags m n q fs) (held m n q fs) (start_tally q) ≡ S.Fits t → Surveys m n q fs t) where
-    by-survey : (x : Surveyed) → ((t : Tally) → x ≡ S.Fits t → Surveys m n q fs t) → Each C (on_survey (fitted x) (plan_met m n q fs now delay status limited s))
-    by-survey (S.Fits t) h = met-carries (fit t) (h t refl).queued (h t refl).room
-    by-survey (S.Refused k) h = λ p e. clash e
+      (svs : (t : Tally) → survey (largest_for q.epoch.largest_acked_packet words) 0 (flags m n q fs) (held m n q fs) (start_tally q) ≡ Ok t → Surveys m n q fs t) where
+    by-survey : (x : Result Tally Refusal) → ((t : Tally) → x ≡ Ok t → Surveys m n q fs t) → Each C (then (fitted x) (plan_met m n q fs now delay status limited s))
+    by-survey (Ok t) h = met-carries (fit t) (h t refl).queued (h t refl).room
+    by-survey (Err k) h = λ p e. clash e
 
     pub plan-carries : Each C (plan_ack m n q fs now words delay status limited s)
     unfolding plan_ack
@@ -168,7 +166,7 @@ module _ (words m : List ℕ) (n : ℕ) (q : SpaceState) (r : Covered) (d : Cove
   pub flags-here : covered words (held m n q r.flags) ≡ flags m n q r.flags
   flags-here = rw (held-records m n q.head q.len) (sym (cover-ring words m n q.head q.len r d))
 
-  pub surveys-here : (largest : ℕ) (t : Tally) → survey largest 0 (flags m n q r.flags) (held m n q r.flags) (start_tally q) ≡ S.Fits t → Surveys m n q r.flags t
+  pub surveys-here : (largest : ℕ) (t : Tally) → survey largest 0 (flags m n q r.flags) (held m n q r.flags) (start_tally q) ≡ Ok t → Surveys m n q r.flags t
   surveys-here largest t e =
       let y = tallied (flagged r.flags) (held_at m n q.head) largest 0 q.len (start_tally q) (sym e) in
       record {
@@ -187,7 +185,7 @@ module _ (m : List ℕ) (full : length m ≡ all_words) (n : ℕ) (nn : n < 3) (
   abbrev q : SpaceState
   q = normal_of (space_state_at n s)
 
-  pub len-fits : q.len ≤ capacity
+  len-fits : q.len ≤ capacity
   unfolding normal_of
   len-fits = omega arith
 
@@ -203,12 +201,8 @@ module _ (m : List ℕ) (full : length m ≡ all_words) (n : ℕ) (nn : n < 3) (
   unfolding normal_of
   pto-fits = omega arith
 
-  pub head-fits : q.head ≤ capacity
-  unfolding normal_of
-  head-fits = omega arith
-
   -- where the space lies
-  space-fits : (fs : List ℕ) (p : Plan) → Carries m n q fs p → Fits (space_state_at n s) 0 p.space
+  space-fits : (fs : List Bool) (p : Plan) → Carries m n q fs p → Fits (space_state_at n s) 0 p.space
   unfolding normal_of
   space-fits fs p c =
       let k = c.keep in
@@ -216,7 +210,7 @@ module _ (m : List ℕ) (full : length m ≡ all_words) (n : ℕ) (nn : n < 3) (
       let l = c.lost-room in
       rw c.space (record { head = omega arith; len = omega arith; acked = a; lost_ack = l; lost_pto = omega arith })
 
-  module _ (fs : List ℕ) (p : Plan) (c : Carries m n q fs p) where
+  module _ (fs : List Bool) (p : Plan) (c : Carries m n q fs p) where
     abbrev m' : List ℕ
     m' = stored m full n q fs now p.from p.stop p.keep
 
@@ -250,37 +244,33 @@ module _ (m : List ℕ) (full : length m ≡ all_words) (n : ℕ) (nn : n < 3) (
     here : Covers words (records_of m n q.head q.len) r
     here = subst (λ (k : ℕ). Covers words (records_of m n q.head k) r) same_len d
 
-    -- what plan_ack asks
-    pub flags-off : (i : ℕ) → r.last ≤ i → flagged r.flags i ≡ false
-    flags-off = covers-off words (records_of m n q.head (min q.len capacity)) r d
-
     view : shown (acknowledge now n words delay status limited (connection_of m s))
         ≡ then (plan_ack m n q r.flags now words delay status limited s) (shown_by m full n nn s r.flags words now delay status limited)
     view =
         ack-view m full n nn s r.flags words now delay status limited (flags-here words m n q r here acked-fits)
         (surveys-here words m n q r here acked-fits (largest_for q.epoch.largest_acked_packet words))
 
-    carried : (p : Plan) → plan_ack m n q r.flags now words delay status limited s ≡ accepted p → Carries m n q r.flags p
+    carried : (p : Plan) → plan_ack m n q r.flags now words delay status limited s ≡ Ok p → Carries m n q r.flags p
     carried =
         plan-carries m n q r.flags len-fits lost-fits now delay status limited s words
         (surveys-here words m n q r here acked-fits (largest_for q.epoch.largest_acked_packet words))
 
-    pub take-refused : {k : Refusal} → plan_ack m n q r.flags now words delay status limited s ≡ refused k →
-        Does (acknowledge now n words delay status limited (connection_of m s)) (refused k) m m s s (state_by s n 0) (ack_words m s n)
+    pub take-refused : {k : Refusal} → plan_ack m n q r.flags now words delay status limited s ≡ Err k →
+        Does (acknowledge now n words delay status limited (connection_of m s)) (Err k) m m s s (state_by s n 0) (ack_words m s n)
     take-refused {k} e =
         does-refused m s (state_by s n 0) (ack_words m s n) _ k
         (shown-refused m s (state_by s n 0) (ack_words m s n) _ k (view ∙ rw e refl))
 
-    pub take-does : (p : Plan) → plan_ack m n q r.flags now words delay status limited s ≡ accepted p → (after : List ℕ) (k : Queues) →
+    pub take-does : (p : Plan) → plan_ack m n q r.flags now words delay status limited s ≡ Ok p → (after : List ℕ) (k : Queues) →
         Committed m n q.head q.len r.flags r.last p.from p.stop p.keep now q.acked q.lost_ack after k →
-        Does (acknowledge now n words delay status limited (connection_of m s)) (accepted p.outcome) m after s (with_space_state n p.space p.shared s) (state_by s n 0) (ack_words m s n)
+        Does (acknowledge now n words delay status limited (connection_of m s)) (Ok p.outcome) m after s (with_space_state n p.space p.shared s) (state_by s n 0) (ack_words m s n)
     take-does p e after k done =
         let c = carried p e in
         let x = len-fits in
         let y = c.stop in
         let a : after ≡ stored m full n q r.flags now p.from p.stop p.keep =
         commit-memory m n q.head q.len r.flags r.last p.from p.stop p.keep now q.acked q.lost_ack
-        (λ i le lt. flags-off i le) (omega arith) timely acked-fits lost-fits after k done
+        (λ i le lt. r.past i le) (omega arith) timely acked-fits lost-fits after k done
         ∙ ap (λ (j : ℕ). committed m n q.head j r.flags p.from p.stop p.keep now q.acked q.lost_ack) same_len in
         rw a
         (shown-does m s (state_by s n 0) (ack_words m s n) _ _ _ p.outcome (view ∙ rw e refl)
@@ -288,7 +278,7 @@ module _ (m : List ℕ) (full : length m ≡ all_words) (n : ℕ) (nn : n < 3) (
 
 -- ---- the tests before it
 
-pub checked-view : (now : Moment) (n : ℕ) (words : List ℕ) (delay : ℕ) (status : HandshakeStatus) (limited : Bool) (skipped : Number) (c : Connection) →
+pub checked-view : (now : Moment) (n : ℕ) (words : List ℕ) (delay : ℕ) (status : HandshakeStatus) (limited : Bool) (skipped : Option ℕ) (c : Connection) →
     on_ack_received now n words delay status limited skipped c
     ≡ then (checked_ack c.shared.clock now n words delay skipped) (λ d. acknowledge now n words d status limited c)
 unfolding on_ack_received checked_ack
@@ -307,11 +297,11 @@ and_right : (a b : Bool) → (a && b) ≡ true → b ≡ true
 and_right true b e = e
 and_right false b e = absurd (let z : ◌≡◌ {A = ℕ} 0 1 = cc in let w : ⊥ = omega arith in w)
 
-must-holds : {A : Type 0} (b : Bool) (k : Refusal) (r : Result A) {a : A} → must b k r ≡ accepted a → (b ≡ true) × (r ≡ accepted a)
+must-holds : {A : Type 0} (b : Bool) (k : Refusal) (r : Result A Refusal) {a : A} → must b k r ≡ Ok a → (b ≡ true) × (r ≡ Ok a)
 must-holds true k r e = (refl, e)
 must-holds false k r e = clash e
 
-module _ (clock now : Moment) (n : ℕ) (words : List ℕ) (delay : ℕ) (skipped : Number) {d : Span} (e : checked_ack clock now n words delay skipped ≡ accepted d) where
+module _ (clock now : Moment) (n : ℕ) (words : List ℕ) (delay : ℕ) (skipped : Option ℕ) {d : Span} (e : checked_ack clock now n words delay skipped ≡ Ok d) where
   pub checked-space : n < 3
   unfolding checked_ack
   checked-space =

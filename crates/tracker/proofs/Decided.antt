@@ -1,6 +1,6 @@
 -- What the lower crates' functions answer, in the words of a plan. Assumes nothing.
 use mathlib.Core.Path.{◌≡◌, refl, ap, sym, ◌∙◌}
-use mathlib.Core.Bool.{false}
+use mathlib.Core.Bool.{Bool, false}
 use mathlib.Core.List.{List}
 use Prim.Native.Nat.{ℕ, ◌+◌, ◌-◌, ◌%◌, ◌≤◌, min}
 use native.Mathlib.Omega.{arith}
@@ -17,14 +17,8 @@ use Rattle.acks.specs.Places.{places_of, flags_to, held_to}
 use Rattle.acks.proofs.Laws.{survey-past}
 use Rattle.losses.specs.Drain.{drained_to}
 use Rattle.losses.proofs.Laws.{drained-to}
-use Rattle.connection.specs.View.{normal_of}
 use Rattle.connection.specs.declared.SpaceState.{SpaceState}
 use Rattle.tracker.specs.Plan.{start_tally, flags, held, acked_place, first_left}
-
--- counts in their ranges
-pub normal-len : (x : SpaceState) → (normal_of x).len ≤ capacity
-unfolding normal_of
-normal-len x = omega arith
 
 -- a place counts round the ring
 pub record-place : (m : List ℕ) (n h i : ℕ) → record_at m n (h + i % capacity) ≡ record_at m n (h + i)
@@ -32,7 +26,7 @@ record-place m n h i =
     let e : (h + i % capacity) % capacity ≡ (h + i) % capacity = omega arith in
     sym (record-mod m n (h + i % capacity)) ∙ ap (λ (k : ℕ). record_at m n k) e ∙ record-mod m n (h + i)
 
-module _ (m : List ℕ) (n : ℕ) (q : SpaceState) (fs : List ℕ) (len : q.len ≤ capacity) where
+module _ (m : List ℕ) (n : ℕ) (q : SpaceState) (fs : List Bool) (len : q.len ≤ capacity) where
   -- step 2's drain
   pub first-left : (now : Moment) (smoothed : Span) →
       drained_to now smoothed (settled_at m n q.head fs 0 now) (min 0 (min q.len capacity)) (min q.len capacity) ≡ first_left m n q fs now smoothed

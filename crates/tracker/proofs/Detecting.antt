@@ -6,7 +6,8 @@ use native.Mathlib.Omega.{arith}
 use lib.ListN.{length}
 use Rattle.arith.specs.declared.time.Moment.{Moment}
 use Rattle.arith.specs.declared.time.Span.{Span}
-use Rattle.model.specs.Numbers.{Result, accepted, refused, then, or_zero, capacity}
+use Rattle.arith.specs.Refusals.{then}
+use Rattle.model.specs.Numbers.{or_zero, capacity}
 use Rattle.model.specs.Sent.{drained}
 use Rattle.model.specs.Loss.{Lost, loss_delay}
 use Rattle.model.specs.Loss as loss
@@ -15,16 +16,12 @@ use Rattle.model.specs.Connection.{Space}
 use Rattle.model.specs.Events.{Detection, epoch_detected, detect_lost_packets}
 use Rattle.model.specs.declared.Epoch.{Epoch}
 use Rattle.model.specs.declared.Judge.{Judge}
-use Rattle.model.specs.declared.Number.{Number}
 use Rattle.model.specs.declared.Reordering.{Reordering}
 use Rattle.model.specs.declared.Rtt.{Rtt}
 use Rattle.model.specs.declared.Sent.{Sent}
-use Rattle.model.specs.declared.Time.TheVariants.{Unset}
 use Rattle.records.specs.View.{ring, queue_of}
 use Rattle.records.proofs.Rings.{ring-take}
 use Rattle.records.proofs.Laws.{length-queue}
-use Rattle.marks.specs.declared.Detected.{Detected}
-use Rattle.marks.specs.declared.Detected.TheVariants as D
 use Rattle.marks.specs.declared.Stop.{Stop}
 use Rattle.marks.proofs.SplitLoss.{finish_lost, split-loss}
 use Rattle.marks.proofs.Lost.{lost-ring, drained-twice}
@@ -35,9 +32,11 @@ use Rattle.commit.specs.Commit.{gone_handles}
 use Rattle.connection.specs.declared.SpaceState.{SpaceState}
 use Rattle.tracker.proofs.Chains.{then-then}
 use Rattle.tracker.specs.declared.Losses.{Losses}
-use Rattle.tracker.specs.Plan.{on_stop, acked_place, settled_place, plan_losses}
+use Rattle.tracker.specs.Plan.{acked_place, settled_place, plan_losses}
+use Rattle.std.specs.Prelude.{Bool, Result, Ok, Err, Option, None}
+use Rattle.arith.specs.declared.refusal.Refusal.{Refusal}
 
-module _ (m : List ℕ) (n : ℕ) (q : SpaceState) (fs : List ℕ) (now : Moment) (from : ℕ) (le : from ≤ q.len) (a p : List ℕ) (e : Epoch) where
+module _ (m : List ℕ) (n : ℕ) (q : SpaceState) (fs : List Bool) (now : Moment) (from : ℕ) (le : from ≤ q.len) (a p : List ℕ) (e : Epoch) where
   abbrev queue : List ℕ
   queue = queue_of m n 1 q.lost_ack
 
@@ -71,7 +70,7 @@ module _ (m : List ℕ) (n : ℕ) (q : SpaceState) (fs : List ℕ) (now : Moment
     judge d = record { now = now; delay = d; threshold = o.pkt_thresh; largest = or_zero e.largest_acked_packet }
 
     abbrev fresh : Lost
-    fresh = record { queue = queue; packets = 0; bytes = 0; probe_bytes = 0; in_flight = e.in_flight_count; last = Unset }
+    fresh = record { queue = queue; packets = 0; bytes = 0; probe_bytes = 0; in_flight = e.in_flight_count; last = None }
 
     abbrev records : List Sent
     records = ring (acked_place m n q fs) from (q.len - from)
@@ -101,10 +100,10 @@ module _ (m : List ℕ) (n : ℕ) (q : SpaceState) (fs : List ℕ) (now : Moment
           moves = lose_by now d.lost.last ++ (count d.lost.packets ∷ []);
         }
 
-    stopped : (d : Span) (x : Detected) → seek_from (judge d) (acked_place m n q fs) from q.len q.lost_ack e.in_flight_count ≡ x →
-        then (finish_lost x from now records queue) (λ y. accepted (told y)) ≡ then (on_stop x (λ f. accepted (found f))) (λ l. accepted (detection bytes l))
+    stopped : (d : Span) (x : Result Stop Refusal) → seek_from (judge d) (acked_place m n q fs) from q.len q.lost_ack e.in_flight_count ≡ x →
+        then (finish_lost x from now records queue) (λ y. Ok (told y)) ≡ then (then x (λ f. Ok (found f))) (λ l. Ok (detection bytes l))
     unfolding finish_lost
-    stopped d (D.Stops f) s =
+    stopped d (Ok f) s =
         let ge : from ≤ f.place = seek-from (judge d) (acked_place m n q fs) from q.len q.lost_ack e.in_flight_count f s le in
         let to : f.place ≤ q.len = seek-to (judge d) (acked_place m n q fs) from q.len q.lost_ack e.in_flight_count f s le in
         let short : f.place - from ≤ q.len - from = omega arith in
@@ -113,19 +112,19 @@ module _ (m : List ℕ) (n : ℕ) (q : SpaceState) (fs : List ℕ) (now : Moment
           (drained-to now rtt.smoothed_rtt (settled_place m n q fs f.place now) q.len from le).left,
           ring-take (acked_place m n q fs) from (f.place - from) (q.len - from) short,
         ) refl
-    stopped d (D.Refused k) s = refl
+    stopped d (Err k) s = refl
 
     pub losses-view :
         detect_lost_packets now rtt o bytes before
-        ≡ then (plan_losses m n q fs now rtt o e.largest_acked_packet e.in_flight_count from) (λ l. accepted (detection bytes l))
+        ≡ then (plan_losses m n q fs now rtt o e.largest_acked_packet e.in_flight_count from) (λ l. Ok (detection bytes l))
     unfolding detect_lost_packets plan_losses
     losses-view =
-        then-then (λ l. accepted (detection bytes l)) (loss_delay rtt o.time_thresh) _ _ λ d x.
+        then-then (λ l. Ok (detection bytes l)) (loss_delay rtt o.time_thresh) _ _ λ d x.
         rw (split-loss (judge d) from records fresh, length-queue m n 1 q.lost_ack)
         (stopped d (seek_from (judge d) (acked_place m n q fs) from q.len q.lost_ack e.in_flight_count) refl)
 
 -- what is learnt of a detection that ends
-pub record Ends (m : List ℕ) (n : ℕ) (q : SpaceState) (fs : List ℕ) (now : Moment) (smoothed : Span) (from : ℕ) (l : Losses) : Type 0 where
+pub record Ends (m : List ℕ) (n : ℕ) (q : SpaceState) (fs : List Bool) (now : Moment) (smoothed : Span) (from : ℕ) (l : Losses) : Type 0 where
   pub handles : l.tally.queued ≡ q.lost_ack + length (gone_handles m n q.head fs from l.stop)
   pub room : q.lost_ack ≤ capacity → l.tally.queued ≤ capacity
   pub from-stop : from ≤ l.stop
@@ -135,11 +134,11 @@ pub record Ends (m : List ℕ) (n : ℕ) (q : SpaceState) (fs : List ℕ) (now :
   -- draining again changes nothing
   pub still : drained now smoothed (ring (settled_place m n q fs l.stop now) l.keep (q.len - l.keep)) ≡ ring (settled_place m n q fs l.stop now) l.keep (q.len - l.keep)
 
-module _ (m : List ℕ) (n : ℕ) (q : SpaceState) (fs : List ℕ) (now : Moment) (rtt : Rtt) (o : Reordering) (largest : Number) (in_flight from : ℕ) (le : from ≤ q.len) where
+module _ (m : List ℕ) (n : ℕ) (q : SpaceState) (fs : List Bool) (now : Moment) (rtt : Rtt) (o : Reordering) (largest : Option ℕ) (in_flight from : ℕ) (le : from ≤ q.len) where
   abbrev judging : Span → Judge
   judging d = record { now = now; delay = d; threshold = o.pkt_thresh; largest = or_zero largest }
 
-  ends_at : (d : Span) (f : Stop) → seek_from (judging d) (acked_place m n q fs) from q.len q.lost_ack in_flight ≡ D.Stops f →
+  ends_at : (d : Span) (f : Stop) → seek_from (judging d) (acked_place m n q fs) from q.len q.lost_ack in_flight ≡ Ok f →
       Ends m n q fs now rtt.smoothed_rtt from
       (record {
         tally = f.tally;
@@ -159,39 +158,39 @@ module _ (m : List ℕ) (n : ℕ) (q : SpaceState) (fs : List ℕ) (now : Moment
         still = rw (← dr.left) (drained-twice now rtt.smoothed_rtt _);
       }
 
-  pub ends : (l : Losses) → plan_losses m n q fs now rtt o largest in_flight from ≡ accepted l → Ends m n q fs now rtt.smoothed_rtt from l
+  pub ends : (l : Losses) → plan_losses m n q fs now rtt o largest in_flight from ≡ Ok l → Ends m n q fs now rtt.smoothed_rtt from l
   unfolding plan_losses
   ends l = go (loss_delay rtt o.time_thresh)
     where
-      stops : (d : Span) (x : Detected) → seek_from (judging d) (acked_place m n q fs) from q.len q.lost_ack in_flight ≡ x →
-          on_stop x
+      stops : (d : Span) (x : Result Stop Refusal) → seek_from (judging d) (acked_place m n q fs) from q.len q.lost_ack in_flight ≡ x →
+          then x
           (λ f.
-          accepted
+          Ok
           (record {
             tally = f.tally;
             stop = f.place;
             loss_time = f.loss_time;
             keep = drained_to now rtt.smoothed_rtt (settled_place m n q fs f.place now) from q.len;
           }))
-          ≡ accepted l →
+          ≡ Ok l →
           Ends m n q fs now rtt.smoothed_rtt from l
-      stops d (D.Stops f) e y = let z : ◌≡◌ {A = Losses} (record { tally = f.tally; stop = f.place; loss_time = f.loss_time; keep = drained_to now rtt.smoothed_rtt (settled_place m n q fs f.place now) from q.len }) l = cc in
+      stops d (Ok f) e y = let z : ◌≡◌ {A = Losses} (record { tally = f.tally; stop = f.place; loss_time = f.loss_time; keep = drained_to now rtt.smoothed_rtt (settled_place m n q fs f.place now) from q.len }) l = cc in
           subst (Ends m n q fs now rtt.smoothed_rtt from) z (ends_at d f e)
-      stops d (D.Refused k) e y = absurd (let z : ◌≡◌ {A = ℕ} 0 1 = cc in let w : ⊥ = omega arith in w)
+      stops d (Err k) e y = absurd (let z : ◌≡◌ {A = ℕ} 0 1 = cc in let w : ⊥ = omega arith in w)
 
-      go : (x : Result Span) →
+      go : (x : Result Span Refusal) →
           then x
           (λ d.
-          on_stop (seek_from (judging d) (acked_place m n q fs) from q.len q.lost_ack in_flight)
+          then (seek_from (judging d) (acked_place m n q fs) from q.len q.lost_ack in_flight)
           (λ f.
-          accepted
+          Ok
           (record {
             tally = f.tally;
             stop = f.place;
             loss_time = f.loss_time;
             keep = drained_to now rtt.smoothed_rtt (settled_place m n q fs f.place now) from q.len;
           })))
-          ≡ accepted l →
+          ≡ Ok l →
           Ends m n q fs now rtt.smoothed_rtt from l
-      go (accepted d) y = stops d (seek_from (judging d) (acked_place m n q fs) from q.len q.lost_ack in_flight) refl y
-      go (refused k) y = absurd (let z : ◌≡◌ {A = ℕ} 0 1 = cc in let w : ⊥ = omega arith in w)
+      go (Ok d) y = stops d (seek_from (judging d) (acked_place m n q fs) from q.len q.lost_ack in_flight) refl y
+      go (Err k) y = absurd (let z : ◌≡◌ {A = ℕ} 0 1 = cc in let w : ⊥ = omega arith in w)

@@ -1,4 +1,5 @@
 -- What a plan leaves, once it is stored: the space, and the connection around it. Assumes nothing.
+use mathlib.Core.Bool.{Bool}
 use mathlib.Core.Path.{◌≡◌, refl, sym, ◌∙◌}
 use mathlib.Core.List.{List, ◌++◌}
 use mathlib.Core.Logic.{◌≢◌}
@@ -20,7 +21,7 @@ use Rattle.connection.specs.declared.State.{State}
 use Rattle.connection.proofs.Views.{state-view}
 use Rattle.tracker.specs.Plan.{kept_space, settled_place}
 
-module _ (m : List ℕ) (full : length m ≡ all_words) (n : ℕ) (q : SpaceState) (fs : List ℕ) (now : Moment) (from stop keep : ℕ) where
+module _ (m : List ℕ) (full : length m ≡ all_words) (n : ℕ) (q : SpaceState) (fs : List Bool) (now : Moment) (from stop keep : ℕ) where
   -- the words once the plan is stored
   abbrev pub stored : List ℕ
   stored = committed m n q.head q.len fs from stop keep now q.acked q.lost_ack

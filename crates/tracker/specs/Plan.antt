@@ -1,10 +1,11 @@
 -- What an acknowledgement decides, told from the words as they are. Definitions that serve the proofs: proofs/Acks.antt shows that carrying such a plan out is
 -- model's acknowledgement on what the words and the state stand for.
-use Rattle.std.specs.Prelude.{ℕ, ◌+◌, ◌-◌, ◌%◌, Bool, false, cond, ◌&&◌, List, [], ◌∷◌, ◌++◌, eqb}
+use Rattle.std.specs.Prelude.{ℕ, ◌+◌, ◌-◌, ◌%◌, Bool, false, cond, ◌&&◌, List, [], ◌∷◌, ◌++◌, eqb, Result, Ok, Err, Option, Some, None}
 use Rattle.arith.specs.Time.{since_of}
 use Rattle.arith.specs.declared.time.Moment.{Moment}
 use Rattle.arith.specs.declared.time.Span.{Span}
-use Rattle.model.specs.Numbers.{Result, accepted, refused, then, or_zero, capacity}
+use Rattle.arith.specs.Refusals.{then}
+use Rattle.model.specs.Numbers.{or_zero, capacity}
 use Rattle.model.specs.Rtt.{rtt_update}
 use Rattle.model.specs.Ranges.{largest_for}
 use Rattle.model.specs.Ack.{reordered}
@@ -16,8 +17,6 @@ use Rattle.model.specs.Events.{Step, epoch_acked, epoch_detected, stored_largest
 use Rattle.model.specs.declared.Congestion.{Congestion}
 use Rattle.model.specs.declared.Epoch.{Epoch}
 use Rattle.model.specs.declared.HandshakeStatus.{HandshakeStatus}
-use Rattle.model.specs.declared.Number.{Number}
-use Rattle.model.specs.declared.Number.TheVariants.{Missing, Is}
 use Rattle.model.specs.declared.Reordering.{Reordering}
 use Rattle.model.specs.declared.Rtt.{Rtt}
 use Rattle.model.specs.declared.Sent.{Sent}
@@ -29,25 +28,14 @@ use Rattle.acks.specs.Fitted.{fitted}
 use Rattle.losses.specs.Drain.{drained_to}
 use Rattle.losses.specs.Seek.{seek_from}
 use Rattle.marks.specs.declared.Tally.{Tally}
-use Rattle.marks.specs.declared.Surveyed.{Surveyed}
-use Rattle.marks.specs.declared.Surveyed.TheVariants as S
 use Rattle.marks.specs.declared.Stop.{Stop}
-use Rattle.marks.specs.declared.Detected.{Detected}
-use Rattle.marks.specs.declared.Detected.TheVariants as D
 use Rattle.connection.specs.View.{with_space_state}
 use Rattle.connection.specs.Steps.{facts_state}
 use Rattle.connection.specs.declared.SpaceState.{SpaceState}
 use Rattle.connection.specs.declared.State.{State}
 use Rattle.tracker.specs.declared.Losses.{Losses}
 use Rattle.tracker.specs.declared.Plan.{Plan}
-
-abbrev pub on_survey : {A : Type 0} → Surveyed → (Tally → Result A) → Result A
-on_survey (S.Fits t) k = k t
-on_survey (S.Refused n) k = refused n
-
-abbrev pub on_stop : {A : Type 0} → Detected → (Stop → Result A) → Result A
-on_stop (D.Stops f) k = k f
-on_stop (D.Refused n) k = refused n
+use Rattle.arith.specs.declared.refusal.Refusal.{Refusal}
 
 abbrev pub start_tally : SpaceState → Tally
 start_tally q =
@@ -59,7 +47,7 @@ start_tally q =
       acked_bytes = 0;
       in_flight = q.epoch.in_flight_count;
       spurious = 0;
-      distance = Missing;
+      distance = None;
       spurious_in_flight = false;
     }
 
@@ -69,9 +57,9 @@ kept_space q keep acked lost_ack epoch =
     record { head = (q.head + keep) % capacity; len = q.len - keep; acked = acked; lost_ack = lost_ack; lost_pto = q.lost_pto; epoch = epoch }
 
 -- model's `sampled`, with whether a newly acked packet is eliciting
-unfoldable pub sampled_by : Moment → Span → HandshakeStatus → Number → Sent → Bool → Rtt → Result Rtt
+unfoldable pub sampled_by : Moment → Span → HandshakeStatus → Option ℕ → Sent → Bool → Rtt → Result Rtt Refusal
 sampled_by now delay status old last eliciting rtt =
-    cond (eqb last.number (stored_largest old last) && eliciting) (rtt_update rtt (since_of now last.time_sent) delay status.completed) (accepted rtt)
+    cond (eqb last.number (stored_largest old last) && eliciting) (rtt_update rtt (since_of now last.time_sent) delay status.completed) (Ok rtt)
 
 -- what is shared, where nothing is newly acked
 abbrev pub shared_nothing : Moment → Reordering → Congestion → Shared → Shared
@@ -89,10 +77,10 @@ shared_nothing now o g s =
     }
 
 -- step 4
-unfoldable pub plan_nothing : SpaceState → Moment → Tally → Reordering → ℕ → Shared → Result Plan
+unfoldable pub plan_nothing : SpaceState → Moment → Tally → Reordering → ℕ → Shared → Result Plan Refusal
 plan_nothing q now t o from s =
     then (control (forgive_by t.spurious_in_flight) s.congestion) λ g.
-    accepted
+    Ok
     (record {
       space = kept_space q from t.queued q.lost_ack (epoch_acked t.in_flight q.epoch.largest_acked_packet q.epoch);
       shared = shared_nothing now o g s;
@@ -102,18 +90,18 @@ plan_nothing q now t o from s =
       keep = from;
     })
 
-abbrev pub space_planned : SpaceState → Tally → Number → Losses → SpaceState
+abbrev pub space_planned : SpaceState → Tally → Option ℕ → Losses → SpaceState
 space_planned q t largest l =
     kept_space q l.keep t.queued l.tally.queued
     (epoch_detected l.tally.in_flight l.loss_time (epoch_acked t.in_flight largest q.epoch))
 
 -- step 6: the timer comes last
-unfoldable pub plan_timed : ℕ → SpaceState → Moment → HandshakeStatus → Rtt → Reordering → Tally → Number → Losses → ℕ → Congestion → State → Result Plan
+unfoldable pub plan_timed : ℕ → SpaceState → Moment → HandshakeStatus → Rtt → Reordering → Tally → Option ℕ → Losses → ℕ → Congestion → State → Result Plan Refusal
 plan_timed n q now status rtt o t largest l from g s =
     let space = space_planned q t largest l in
     let shared = shared_acked now rtt o (s.shared.bytes_in_flight - l.tally.bytes - l.tally.probe_bytes - t.acked_bytes) g s.shared in
     then (timer_of (facts_state now status (with_space_state n space shared s))) λ time.
-    accepted
+    Ok
     (record {
       space = space;
       shared = with_timer time shared;
@@ -124,7 +112,7 @@ plan_timed n q now status rtt o t largest l from g s =
     })
 
 -- ---- space n with state q, its counts in their ranges; the records in the ranges are flagged by fs
-module _ (m : List ℕ) (n : ℕ) (q : SpaceState) (fs : List ℕ) where
+module _ (m : List ℕ) (n : ℕ) (q : SpaceState) (fs : List Bool) where
   abbrev pub flags : List Bool
   flags = ring (flagged fs) 0 q.len
 
@@ -153,12 +141,12 @@ module _ (m : List ℕ) (n : ℕ) (q : SpaceState) (fs : List ℕ) where
       }
 
   -- losses among the records from place `from` on
-  unfoldable pub plan_losses : Moment → Rtt → Reordering → Number → ℕ → ℕ → Result Losses
+  unfoldable pub plan_losses : Moment → Rtt → Reordering → Option ℕ → ℕ → ℕ → Result Losses Refusal
   plan_losses now rtt o largest in_flight from =
       then (loss_delay rtt o.time_thresh) λ delay.
-      on_stop
+      then
       (seek_from (record { now = now; delay = delay; threshold = o.pkt_thresh; largest = or_zero largest }) acked_place from q.len q.lost_ack in_flight) λ f.
-      accepted (ends_of now rtt from f)
+      Ok (ends_of now rtt from f)
 
   -- what the controller is told in step 6
   abbrev pub moves_of : Moment → Bool → Span → Tally → Losses → List Move
@@ -167,31 +155,31 @@ module _ (m : List ℕ) (n : ℕ) (q : SpaceState) (fs : List ℕ) where
       ++ ((lose_by now l.tally.last ++ (count l.tally.packets ∷ [])) ++ ack_each now limited min_rtt (newly_of flags held))
 
   -- what is left of step 6 once the losses are known
-  abbrev pub plan_moved : Moment → HandshakeStatus → Bool → Rtt → Reordering → Tally → Number → Losses → ℕ → State → Result Plan
+  abbrev pub plan_moved : Moment → HandshakeStatus → Bool → Rtt → Reordering → Tally → Option ℕ → Losses → ℕ → State → Result Plan Refusal
   plan_moved now status limited rtt o t largest l from s =
       then (control (moves_of now limited rtt.min_rtt t l) s.shared.congestion) λ g.
       plan_timed n q now status rtt o t largest l from g s
 
   -- steps 5 and 6; `last` is the largest newly acked
-  unfoldable pub plan_some : Moment → Span → HandshakeStatus → Bool → Tally → Sent → Reordering → ℕ → State → Result Plan
+  unfoldable pub plan_some : Moment → Span → HandshakeStatus → Bool → Tally → Sent → Reordering → ℕ → State → Result Plan Refusal
   plan_some now delay status limited t last o from s =
       let old = q.epoch.largest_acked_packet in
-      let largest = Is (stored_largest old last) in
+      let largest = Some (stored_largest old last) in
       then (sampled_by now delay status old last t.eliciting s.shared.rtt) λ rtt.
       then (plan_losses now rtt o largest t.in_flight from) λ l.
       plan_moved now status limited rtt o t largest l from s
 
   -- steps 2 to 6, once step 1 is known
-  abbrev pub plan_met : Moment → Span → HandshakeStatus → Bool → State → Tally → Result Plan
+  abbrev pub plan_met : Moment → Span → HandshakeStatus → Bool → State → Tally → Result Plan Refusal
   plan_met now delay status limited s t =
       then (reordered t.distance t.spurious s.shared.reordering) λ o.
       let from = first_left now s.shared.rtt.smoothed_rtt in
       cond (eqb t.newly 0) (plan_nothing q now t o from s.shared) (plan_some now delay status limited t (held_at m n q.head t.last) o from s)
 
   -- steps 1 to 6
-  unfoldable pub plan_ack : Moment → List ℕ → Span → HandshakeStatus → Bool → State → Result Plan
+  unfoldable pub plan_ack : Moment → List ℕ → Span → HandshakeStatus → Bool → State → Result Plan Refusal
   plan_ack now words delay status limited s =
-      on_survey (fitted (survey (largest_for q.epoch.largest_acked_packet words) 0 flags held (start_tally q)))
+      then (fitted (survey (largest_for q.epoch.largest_acked_packet words) 0 flags held (start_tally q)))
       (plan_met now delay status limited s)
 
 -- an event's step as an outsider sees it: without what the controller was told
@@ -199,6 +187,6 @@ pub record Shown (A : Type 0) : Type 0 where
   pub state : Connection
   pub answer : A
 
-abbrev pub shown : {A : Type 0} → Result (Step A) → Result (Shown A)
-shown (accepted x) = accepted (record { state = x.state; answer = x.answer })
-shown (refused n) = refused n
+abbrev pub shown : {A : Type 0} → Result (Step A) Refusal → Result (Shown A) Refusal
+shown (Ok x) = Ok (record { state = x.state; answer = x.answer })
+shown (Err n) = Err n

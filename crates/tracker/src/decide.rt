@@ -1,12 +1,8 @@
 // What an acknowledgement decides, read only; nothing is stored yet. 01 Acknowledgement (000); 000 on_ack_received
-ghost use Rattle.std.specs.Prelude.{◌≡◌, false, ℕ, ◌≤◌};
+ghost use Rattle.std.specs.Prelude.{◌≡◌, ◌≤◌};
 ghost use Rattle.model.specs.Control.{control};
-ghost use Rattle.model.specs.Numbers.{capacity};
 ghost use Rattle.model.specs.Ranges.{largest_for};
-ghost use Rattle.marks.specs.Marks.{flagged};
-ghost use Rattle.congestion.specs.Says.{moved_says};
 ghost use Rattle.tracker.specs.Plan.{moves_of, plan_nothing, plan_timed, plan_moved, plan_some, plan_met, plan_ack};
-ghost use Rattle.tracker.specs.Says.{planned_says};
 
 use crate::control::{acked_each, after_losses, forgiven};
 use crate::detect::{or_zero, plan_losses};
@@ -14,49 +10,48 @@ use crate::steps::{
     bytes_left, epoch_acked, kept_space, outcome_of, reorder, sampled_rtt, shared_acked,
     shared_nothing, shared_timed, space_planned, stored_largest,
 };
-use crate::{LossPlan, Losses, Plan, Planned, Reordered};
+use crate::{Losses, Plan, Received};
 use acks::meet::meet_all;
-use arith::time::{Moment, Span, greater};
-use congestion::Moved;
+use arith::refusal::Refusal;
+use arith::time::{Moment, Span};
 use connection::parts::{facts, with_space};
-use connection::{SpaceState, State};
-use estimate::rtt::Updated;
-use estimate::timer::{Armed, set_loss_detection_timer};
+use connection::{Normal, State};
+use estimate::timer::set_loss_detection_timer;
 use losses::drain::drain;
-use marks::{Surveyed, Tally};
-use model::{Congestion, HandshakeStatus, Number, Refusal, Reordering, Rtt, Sent, Shared};
+use marks::{Covered, Tally};
+use model::{Congestion, Reordering, Rtt, Sent, Shared};
 use records::memory::{CAPACITY, Words, record_at};
 use records::ranges::last_end;
 
 // Nothing newly acked: four zeros, even after spurious losses. 01 Acknowledgement (000) 4
+#[tactic(auto, unfolding(crate::specs::Plan::plan_nothing))]
 fn plan_nothing(
-    q: SpaceState,
+    q: Normal,
     time: Moment,
     t: Tally,
     o: Reordering,
     from: usize,
     s: Shared,
-) -> Planned
-    requires { (q.head ≤ capacity) × (q.len ≤ capacity) × (from ≤ q.len) }
-    ensures { planned_says result ≡ plan_nothing q time t o from s }
+) -> Result<Plan, Refusal>
+    requires { from ≤ q.space.len }
+    ensures { result ≡ plan_nothing q.space time t o from s }
 {
-    let old = q.epoch;
-    let largest = old.largest_acked_packet;
-    let congestion = s.congestion;
-    let g = forgiven(congestion, t.spurious_in_flight);
     let space = kept_space(
         q,
         from,
         t.queued,
-        q.lost_ack as u64,
-        epoch_acked(old, t.in_flight, largest),
+        q.space.lost_ack as u64,
+        epoch_acked(
+            q.space.epoch,
+            t.in_flight,
+            q.space.epoch.largest_acked_packet,
+        ),
     );
-    let shared = shared_nothing(s, time, o, g);
-    let outcome = outcome_of(0, 0, 0, 0);
-    Planned::Accepted(Plan {
+    let g = forgiven(s.congestion, t.spurious_in_flight);
+    Ok(Plan {
         space,
-        shared,
-        outcome,
+        shared: shared_nothing(s, time, o, g),
+        outcome: outcome_of(0, 0, 0, 0),
         from,
         stop: from,
         keep: from,
@@ -67,63 +62,46 @@ fn plan_nothing(
 fn control_ack(
     m: &Words,
     n: u64,
-    q: SpaceState,
-    fs: &[u8; 256],
-    last: usize,
-    time: Moment,
-    limited: bool,
+    q: Normal,
+    covered: &Covered,
+    a: Received,
     min_rtt: Span,
     t: Tally,
     l: Losses,
     g: Congestion,
-) -> Moved
-    requires { (q.len ≤ capacity) × ((i : ℕ) → last ≤ i → flagged fs.now i ≡ false) }
-    ensures { moved_says result ≡ control (moves_of m.now n q fs.now time limited min_rtt t l) g }
+) -> Result<Congestion, Refusal>
+    ensures { result ≡ control (moves_of m.now n q.space covered.now.flags a.time a.limited min_rtt t l) g }
 {
-    let lost = l.tally;
-    let told = after_losses(forgiven(g, t.spurious_in_flight), time, lost);
-    match told {
-        Moved::Accepted(h) => acked_each(m, n, q, fs, last, h, time, limited, min_rtt),
-        Moved::Refused(k) => Moved::Refused(k),
-    }
+    let h = after_losses(forgiven(g, t.spurious_in_flight), a.time, l.tally)?;
+    acked_each(m, n, q, covered, h, a.time, a.limited, min_rtt)
 }
 
 // PTO count 0, the timer and the answer. 01 Acknowledgement (000) 6
+#[tactic(auto, unfolding(crate::specs::Plan::plan_timed))]
 fn plan_timed(
     n: u64,
-    q: SpaceState,
-    time: Moment,
-    status: HandshakeStatus,
+    q: Normal,
+    a: Received,
     rtt: Rtt,
     o: Reordering,
     t: Tally,
-    largest: Number,
+    largest: Option<u64>,
     l: Losses,
     from: usize,
     g: Congestion,
     s: State,
-) -> Planned
-    requires { (q.head ≤ capacity) × (q.len ≤ capacity) × (l.keep ≤ q.len) }
-    ensures { planned_says result ≡ plan_timed n q time status rtt o t largest l from g s }
+) -> Result<Plan, Refusal>
+    requires { l.keep ≤ q.space.len }
+    ensures { result ≡ plan_timed n q.space a.time a.status rtt o t largest l from g s }
 {
-    let old = s.shared;
-    let lost = l.tally;
     let space = space_planned(q, t, largest, l);
-    let bytes = bytes_left(old.bytes_in_flight, lost, t.acked_bytes);
-    let shared = shared_acked(old, time, rtt, o, bytes, g);
-    let Armed::Is(timer) = set_loss_detection_timer(facts(
-        with_space(s, n, space, shared),
-        time,
-        status,
-    )) else {
-        return Planned::Refused(Refusal::TooLarge);
-    };
-    let armed = shared_timed(shared, timer);
-    let outcome = outcome_of(lost.packets, lost.bytes, t.acked_bytes, t.spurious);
-    Planned::Accepted(Plan {
+    let bytes = bytes_left(s.shared.bytes_in_flight, l.tally, t.acked_bytes);
+    let shared = shared_acked(s.shared, a.time, rtt, o, bytes, g);
+    let timer = set_loss_detection_timer(facts(with_space(s, n, space, shared), a.time, a.status))?;
+    Ok(Plan {
         space,
-        shared: armed,
-        outcome,
+        shared: shared_timed(shared, timer),
+        outcome: outcome_of(l.tally.packets, l.tally.bytes, t.acked_bytes, t.spurious),
         from,
         stop: l.stop,
         keep: l.keep,
@@ -134,150 +112,121 @@ fn plan_timed(
 fn plan_moved(
     m: &Words,
     n: u64,
-    q: SpaceState,
-    fs: &[u8; 256],
-    last: usize,
-    time: Moment,
-    status: HandshakeStatus,
-    limited: bool,
+    q: Normal,
+    covered: &Covered,
+    a: Received,
     rtt: Rtt,
     o: Reordering,
     t: Tally,
-    largest: Number,
+    largest: Option<u64>,
     l: Losses,
     from: usize,
     s: State,
-) -> Planned
-    requires { (q.head ≤ capacity) × (q.len ≤ capacity) × (l.keep ≤ q.len) × ((i : ℕ) → last ≤ i → flagged fs.now i ≡ false) }
-    ensures { planned_says result ≡ plan_moved m.now n q fs.now time status limited rtt o t largest l from s }
+) -> Result<Plan, Refusal>
+    requires { l.keep ≤ q.space.len }
+    ensures { result ≡ plan_moved m.now n q.space covered.now.flags a.time a.status a.limited rtt o t largest l from s }
 {
-    let shared = s.shared;
-    let congestion = shared.congestion;
-    let min_rtt = rtt.min_rtt;
-    let told = control_ack(m, n, q, fs, last, time, limited, min_rtt, t, l, congestion);
-    match told {
-        Moved::Accepted(g) => plan_timed(n, q, time, status, rtt, o, t, largest, l, from, g, s),
-        Moved::Refused(k) => Planned::Refused(k),
-    }
+    let g = control_ack(m, n, q, covered, a, rtt.min_rtt, t, l, s.shared.congestion)?;
+    plan_timed(n, q, a, rtt, o, t, largest, l, from, g, s)
 }
 
 // Some newly acked, the largest of which is r. 01 Acknowledgement (000) 5 and 6
+#[tactic(auto, unfolding(crate::specs::Plan::plan_some))]
 fn plan_some(
     m: &Words,
     n: u64,
-    q: SpaceState,
-    fs: &[u8; 256],
-    last: usize,
-    time: Moment,
-    delay: Span,
-    status: HandshakeStatus,
-    limited: bool,
+    q: Normal,
+    covered: &Covered,
+    a: Received,
     t: Tally,
     r: Sent,
     o: Reordering,
     from: usize,
     s: State,
-) -> Planned
-    requires { (q.head ≤ capacity) × (q.len ≤ capacity) × (from ≤ q.len) × ((i : ℕ) → last ≤ i → flagged fs.now i ≡ false) }
-    ensures { planned_says result ≡ plan_some m.now n q fs.now time delay status limited t r o from s }
+) -> Result<Plan, Refusal>
+    requires { from ≤ q.space.len }
+    ensures { result ≡ plan_some m.now n q.space covered.now.flags a.time a.delay a.status a.limited t r o from s }
 {
-    let epoch = q.epoch;
-    let old = epoch.largest_acked_packet;
-    let shared = s.shared;
-    let before = shared.rtt;
-    let Updated::Accepted(rtt) = sampled_rtt(time, delay, status, old, r, t.eliciting, before)
-    else {
-        return Planned::Refused(Refusal::TooLarge);
-    };
-    let largest = Number::Is(stored_largest(old, r));
-    let found = plan_losses(m, n, q, fs, time, rtt, o, largest, t.in_flight, from);
-    match found {
-        LossPlan::Ends(l) => plan_moved(
-            m, n, q, fs, last, time, status, limited, rtt, o, t, largest, l, from, s,
-        ),
-        LossPlan::Refused(k) => Planned::Refused(k),
-    }
+    let old = q.space.epoch.largest_acked_packet;
+    let rtt = sampled_rtt(a.time, a.delay, a.status, old, r, t.eliciting, s.shared.rtt)?;
+    let largest = Some(stored_largest(old, r));
+    let l = plan_losses(
+        m,
+        n,
+        q,
+        &covered.flags,
+        a.time,
+        rtt,
+        o,
+        largest,
+        t.in_flight,
+        from,
+    )?;
+    plan_moved(m, n, q, covered, a, rtt, o, t, largest, l, from, s)
 }
 
 // Steps 2 to 6. The drain goes by the smoothed RTT from before the sample. 01 Acknowledgement (000) 2
 fn plan_met(
     m: &Words,
     n: u64,
-    q: SpaceState,
-    fs: &[u8; 256],
-    last: usize,
-    time: Moment,
-    delay: Span,
-    status: HandshakeStatus,
-    limited: bool,
+    q: Normal,
+    covered: &Covered,
+    a: Received,
     s: State,
     t: Tally,
-) -> Planned
-    requires { (q.head ≤ capacity) × (q.len ≤ capacity) × ((i : ℕ) → last ≤ i → flagged fs.now i ≡ false) }
-    ensures { planned_says result ≡ plan_met m.now n q fs.now time delay status limited s t }
+) -> Result<Plan, Refusal>
+    ensures { result ≡ plan_met m.now n q.space covered.now.flags a.time a.delay a.status a.limited s t }
 {
-    let shared = s.shared;
-    let borne = shared.reordering;
-    let rtt = shared.rtt;
-    let smoothed = rtt.smoothed_rtt;
-    let distance = t.distance;
-    let Reordered::Is(o) = reorder(distance, t.spurious, borne) else {
-        return Planned::Refused(Refusal::TooLarge);
-    };
-    let from = drain(m, n, q.head, q.len, fs, 0, 0, time, smoothed);
+    let o = reorder(t.distance, t.spurious, s.shared.reordering)?;
+    let from = drain(
+        m,
+        n,
+        q.space.head,
+        q.space.len,
+        &covered.flags,
+        0,
+        0,
+        a.time,
+        s.shared.rtt.smoothed_rtt,
+    );
     if t.newly == 0 {
-        return plan_nothing(q, time, t, o, from, shared);
+        return plan_nothing(q, a.time, t, o, from, s.shared);
     }
-    let r = record_at(m, n, q.head + t.last % CAPACITY);
-    plan_some(
-        m, n, q, fs, last, time, delay, status, limited, t, r, o, from, s,
-    )
+    let r = record_at(m, n, q.space.head + t.last % CAPACITY);
+    plan_some(m, n, q, covered, a, t, r, o, from, s)
 }
 
 // The largest for the spurious test. 01 Acknowledgement (000) 1
-fn largest_for(stored: Number, words: &[u64]) -> u64
+#[tactic(auto, unfolding(model::specs::Ranges::largest_for))]
+fn largest_for(stored: Option<u64>, words: &[u64]) -> u64
     ensures { result ≡ largest_for stored words.now }
 {
-    let end = last_end(words);
-    if end == 0 {
-        return greater(or_zero(stored), 0);
-    }
-    greater(or_zero(stored), end - 1)
+    or_zero(stored).max(last_end(words).saturating_sub(1))
 }
 
-// Steps 1 to 6. The flags say which records the ranges hold, all before place last.
+// Steps 1 to 6.
+#[tactic(auto, unfolding(crate::specs::Plan::plan_ack))]
 pub(crate) fn plan_ack(
     m: &Words,
     n: u64,
-    q: SpaceState,
-    fs: &[u8; 256],
-    last: usize,
+    q: Normal,
+    covered: &Covered,
     words: &[u64],
-    time: Moment,
-    delay: Span,
-    status: HandshakeStatus,
-    limited: bool,
+    a: Received,
     s: State,
-) -> Planned
-    requires { (q.head ≤ capacity) × (q.len ≤ capacity) × ((i : ℕ) → last ≤ i → flagged fs.now i ≡ false) }
-    ensures { planned_says result ≡ plan_ack m.now n q fs.now time words.now delay status limited s }
+) -> Result<Plan, Refusal>
+    ensures { result ≡ plan_ack m.now n q.space covered.now.flags a.time words.now a.delay a.status a.limited s }
 {
-    let epoch = q.epoch;
-    let stored = epoch.largest_acked_packet;
-    let largest = largest_for(stored, words);
-    let met = meet_all(
+    let largest = largest_for(q.space.epoch.largest_acked_packet, words);
+    let t = meet_all(
         m,
         n,
-        q.head,
-        q.len,
-        fs,
-        last,
+        q.space.head,
+        q.space.len,
+        covered,
         largest,
-        q.acked as u64,
-        epoch.in_flight_count,
-    );
-    match met {
-        Surveyed::Fits(t) => plan_met(m, n, q, fs, last, time, delay, status, limited, s, t),
-        Surveyed::Refused(k) => Planned::Refused(k),
-    }
+        q.space.acked as u64,
+        q.space.epoch.in_flight_count,
+    )?;
+    plan_met(m, n, q, covered, a, s, t)
 }

@@ -2,9 +2,10 @@
 // An event decides first, reading only, and stores when nothing can refuse any more. No public function has a `requires`.
 #![tactic(auto)]
 
+use arith::time::{Moment, Span};
 use connection::SpaceState;
 use marks::LostTally;
-use model::{OnAckReceivedOutcome, Refusal, Reordering, Shared, Time};
+use model::{HandshakeStatus, OnAckReceivedOutcome, Reordering, Shared};
 
 pub mod ack;
 pub mod control;
@@ -12,20 +13,22 @@ mod decide;
 pub mod detect;
 pub mod steps;
 
+// What comes with an acknowledgement beside its ranges. limited: the application limits the sender
+#[derive(Clone, Copy)]
+pub(crate) struct Received {
+    pub time: Moment,
+    pub delay: Span,
+    pub status: HandshakeStatus,
+    pub limited: bool,
+}
+
 // A loss detection: its sums, the place where it stops, the space's loss time, and the first record that stays.
 #[derive(Clone, Copy)]
 pub struct Losses {
     pub tally: LostTally,
     pub stop: usize,
-    pub loss_time: Time,
+    pub loss_time: Option<Moment>,
     pub keep: usize,
-}
-
-// A loss detection, or the refusal that it reaches first.
-#[derive(Clone, Copy)]
-pub enum LossPlan {
-    Ends(Losses),
-    Refused(Refusal),
 }
 
 // What an acknowledgement or a loss detection has decided.
@@ -39,18 +42,4 @@ pub struct Plan {
     pub from: usize,
     pub stop: usize,
     pub keep: usize,
-}
-
-// A decision, or the refusal that is reached first.
-#[derive(Clone, Copy)]
-pub enum Planned {
-    Accepted(Plan),
-    Refused(Refusal),
-}
-
-// The reordering that is borne from then on, or refusal 7.
-#[derive(Clone, Copy)]
-pub enum Reordered {
-    Is(Reordering),
-    TooLarge,
 }

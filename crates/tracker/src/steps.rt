@@ -3,22 +3,18 @@ ghost use Rattle.std.specs.Prelude.{◌≡◌, ◌-◌, ◌≤◌};
 ghost use Rattle.model.specs.Ack.{reordered};
 ghost use Rattle.model.specs.Connection.{with_timer};
 ghost use Rattle.model.specs.Events.{epoch_acked, epoch_detected, stored_largest, shared_acked, outcome};
-ghost use Rattle.model.specs.Numbers.{capacity};
-ghost use Rattle.estimate.specs.Says.{updated_says};
 ghost use Rattle.tracker.specs.Plan.{kept_space, sampled_by, space_planned, shared_nothing};
-ghost use Rattle.tracker.specs.Says.{reordered_says};
 
+use crate::Losses;
 use crate::detect::or_zero;
-use crate::{Losses, Reordered};
+use arith::refusal::Refusal;
 use arith::round::TimeThreshold;
-use arith::time::{Moment, Span, Sum, add_up, greater, lesser, since};
-use connection::SpaceState;
-use connection::parts::less;
-use estimate::rtt::{Updated, update_rtt};
+use arith::time::{Moment, Span, add_up, since};
+use connection::{Normal, SpaceState};
+use estimate::rtt::update_rtt;
 use marks::{LostTally, Tally};
 use model::{
-    Congestion, Epoch, HandshakeStatus, Number, OnAckReceivedOutcome, Reordering, Rtt, Sent,
-    Shared, Time,
+    Congestion, Epoch, HandshakeStatus, OnAckReceivedOutcome, Reordering, Rtt, Sent, Shared,
 };
 use records::memory::CAPACITY;
 
@@ -27,134 +23,113 @@ const MAX_PACKET_THRESHOLD: u64 = 20;
 
 // The space once the records before place keep have left.
 pub(crate) fn kept_space(
-    q: SpaceState,
+    q: Normal,
     keep: usize,
     acked: u64,
     lost_ack: u64,
     epoch: Epoch,
 ) -> SpaceState
-    requires { (q.head ≤ capacity) × (q.len ≤ capacity) × (keep ≤ q.len) }
-    ensures { result ≡ kept_space q keep acked lost_ack epoch }
+    requires { keep ≤ q.space.len }
+    ensures { result ≡ kept_space q.space keep acked lost_ack epoch }
 {
     SpaceState {
-        head: (q.head + keep) % CAPACITY,
-        len: q.len - keep,
+        head: (q.space.head + keep) % CAPACITY,
+        len: q.space.len - keep,
         acked: acked as usize,
         lost_ack: lost_ack as usize,
-        lost_pto: q.lost_pto,
+        lost_pto: q.space.lost_pto,
         epoch,
     }
 }
 
 // The space's values after step 1, with the largest acked.
-pub fn epoch_acked(e: Epoch, in_flight: u64, largest: Number) -> Epoch
+pub fn epoch_acked(e: Epoch, in_flight: u64, largest: Option<u64>) -> Epoch
     ensures { result ≡ epoch_acked in_flight largest e }
 {
-    let last = e.time_of_last_ack_eliciting_packet;
-    let loss_time = e.loss_time;
-    let sent = e.largest_sent_packet;
     Epoch {
-        time_of_last_ack_eliciting_packet: last,
         largest_acked_packet: largest,
-        loss_time,
-        loss_probes: e.loss_probes,
         in_flight_count: in_flight,
-        largest_sent_packet: sent,
+        ..e
     }
 }
 
 // And after a detection.
-pub fn epoch_detected(e: Epoch, in_flight: u64, loss_time: Time) -> Epoch
+pub fn epoch_detected(e: Epoch, in_flight: u64, loss_time: Option<Moment>) -> Epoch
     ensures { result ≡ epoch_detected in_flight loss_time e }
 {
-    let last = e.time_of_last_ack_eliciting_packet;
-    let acked = e.largest_acked_packet;
-    let sent = e.largest_sent_packet;
     Epoch {
-        time_of_last_ack_eliciting_packet: last,
-        largest_acked_packet: acked,
         loss_time,
-        loss_probes: e.loss_probes,
         in_flight_count: in_flight,
-        largest_sent_packet: sent,
+        ..e
     }
 }
 
 // Any spurious: packet threshold = max(old, min(distance, 20)), time threshold 5/4. Refusal 7: the spurious count. 01 Acknowledgement (000) 3
-pub fn reorder(distance: Number, spurious: u64, o: Reordering) -> Reordered
-    ensures { reordered_says result ≡ reordered distance spurious o }
+#[tactic(auto, unfolding(model::specs::Ack::reordered))]
+pub fn reorder(distance: Option<u64>, spurious: u64, o: Reordering) -> Result<Reordering, Refusal>
+    ensures { result ≡ reordered distance spurious o }
 {
-    let time_thresh = o.time_thresh;
-    let Sum::Fine(count) = add_up(o.lost_spurious_count, spurious) else {
-        return Reordered::TooLarge;
+    let count = add_up(o.lost_spurious_count, spurious)?;
+    let counted = Reordering {
+        lost_spurious_count: count,
+        ..o
     };
-    match distance {
-        Number::Missing => Reordered::Is(Reordering {
-            pkt_thresh: o.pkt_thresh,
-            time_thresh,
-            lost_spurious_count: count,
-        }),
-        Number::Is(d) => Reordered::Is(Reordering {
-            pkt_thresh: greater(o.pkt_thresh, lesser(d, MAX_PACKET_THRESHOLD)),
+    Ok(match distance {
+        None => counted,
+        Some(d) => Reordering {
+            pkt_thresh: o.pkt_thresh.max(d.min(MAX_PACKET_THRESHOLD)),
             time_thresh: TimeThreshold::FiveFourths,
-            lost_spurious_count: count,
-        }),
-    }
+            ..counted
+        },
+    })
 }
 
 // Stored largest = max(old or 0, largest newly acked). 01 Acknowledgement (000) 5
-pub fn stored_largest(old: Number, last: Sent) -> u64
+pub fn stored_largest(old: Option<u64>, last: Sent) -> u64
     ensures { result ≡ stored_largest old last }
 {
-    greater(or_zero(old), last.number)
+    or_zero(old).max(last.number)
 }
 
 // A sample only if that one is newly acked and some newly acked packet is eliciting. 01 Acknowledgement (000) 5
+#[tactic(auto, unfolding(crate::specs::Plan::sampled_by))]
 pub fn sampled_rtt(
     time: Moment,
     delay: Span,
     status: HandshakeStatus,
-    old: Number,
+    old: Option<u64>,
     last: Sent,
     eliciting: bool,
     rtt: Rtt,
-) -> Updated
-    ensures { updated_says result ≡ sampled_by time delay status old last eliciting rtt }
+) -> Result<Rtt, Refusal>
+    ensures { result ≡ sampled_by time delay status old last eliciting rtt }
 {
-    let largest = stored_largest(old, last);
-    if last.number != largest {
-        return Updated::Accepted(rtt);
+    if last.number == stored_largest(old, last) && eliciting {
+        update_rtt(rtt, since(time, last.time_sent), delay, status.completed)
+    } else {
+        Ok(rtt)
     }
-    if eliciting {
-        let sent = last.time_sent;
-        return update_rtt(rtt, since(time, sent), delay, status.completed);
-    }
-    Updated::Accepted(rtt)
 }
 
 // The bytes in flight without the lost and the acked. 01 Lost or not, Acknowledgement (000) 6
 pub fn bytes_left(bytes: u64, l: LostTally, acked: u64) -> u64
     ensures { result ≡ bytes - l.bytes - l.probe_bytes - acked }
 {
-    less(less(less(bytes, l.bytes), l.probe_bytes), acked)
+    bytes
+        .saturating_sub(l.bytes)
+        .saturating_sub(l.probe_bytes)
+        .saturating_sub(acked)
 }
 
 // What is shared, where nothing is newly acked: timer and PTO count stay. 01 Acknowledgement (000) 4
 pub fn shared_nothing(s: Shared, time: Moment, o: Reordering, g: Congestion) -> Shared
     ensures { result ≡ shared_nothing time o g s }
 {
-    let loss_timer = s.loss_timer;
-    let rtt = s.rtt;
     Shared {
         clock: time,
-        loss_timer,
-        pto_count: s.pto_count,
-        rtt,
         reordering: o,
-        bytes_in_flight: s.bytes_in_flight,
-        max_datagram_size: s.max_datagram_size,
-        outstanding_non_ack_eliciting: s.outstanding_non_ack_eliciting,
         congestion: g,
+        ..s
     }
 }
 
@@ -169,55 +144,38 @@ pub fn shared_acked(
 ) -> Shared
     ensures { result ≡ shared_acked time rtt o bytes g s }
 {
-    let loss_timer = s.loss_timer;
     Shared {
         clock: time,
-        loss_timer,
         pto_count: 0,
         rtt,
         reordering: o,
         bytes_in_flight: bytes,
-        max_datagram_size: s.max_datagram_size,
-        outstanding_non_ack_eliciting: s.outstanding_non_ack_eliciting,
         congestion: g,
+        ..s
     }
 }
 
 // With the timer.
-pub fn shared_timed(s: Shared, timer: Time) -> Shared
+pub fn shared_timed(s: Shared, timer: Option<Moment>) -> Shared
     ensures { result ≡ with_timer timer s }
 {
-    let clock = s.clock;
-    let rtt = s.rtt;
-    let reordering = s.reordering;
-    let congestion = s.congestion;
     Shared {
-        clock,
         loss_timer: timer,
-        pto_count: s.pto_count,
-        rtt,
-        reordering,
-        bytes_in_flight: s.bytes_in_flight,
-        max_datagram_size: s.max_datagram_size,
-        outstanding_non_ack_eliciting: s.outstanding_non_ack_eliciting,
-        congestion,
+        ..s
     }
 }
 
 // The space after step 6.
-pub(crate) fn space_planned(q: SpaceState, t: Tally, largest: Number, l: Losses) -> SpaceState
-    requires { (q.head ≤ capacity) × (q.len ≤ capacity) × (l.keep ≤ q.len) }
-    ensures { result ≡ space_planned q t largest l }
+pub(crate) fn space_planned(q: Normal, t: Tally, largest: Option<u64>, l: Losses) -> SpaceState
+    requires { l.keep ≤ q.space.len }
+    ensures { result ≡ space_planned q.space t largest l }
 {
-    let old = q.epoch;
-    let lost = l.tally;
-    let loss_time = l.loss_time;
     let epoch = epoch_detected(
-        epoch_acked(old, t.in_flight, largest),
-        lost.in_flight,
-        loss_time,
+        epoch_acked(q.space.epoch, t.in_flight, largest),
+        l.tally.in_flight,
+        l.loss_time,
     );
-    kept_space(q, l.keep, t.queued, lost.queued, epoch)
+    kept_space(q, l.keep, t.queued, l.tally.queued, epoch)
 }
 
 // What the host learns.

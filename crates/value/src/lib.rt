@@ -8,26 +8,8 @@ use serve::{AckAnswer, Connection, TakeAnswer, TimeoutAnswer};
 
 // The answer, and the record after the event.
 #[derive(Clone, Copy)]
-pub struct After {
-    pub answer: u64,
-    pub connection: Connection,
-}
-
-#[derive(Clone, Copy)]
-pub struct AfterAck {
-    pub answer: AckAnswer,
-    pub connection: Connection,
-}
-
-#[derive(Clone, Copy)]
-pub struct AfterTimeout {
-    pub answer: TimeoutAnswer,
-    pub connection: Connection,
-}
-
-#[derive(Clone, Copy)]
-pub struct AfterTake {
-    pub answer: TakeAnswer,
+pub struct After<T> {
+    pub answer: T,
     pub connection: Connection,
 }
 
@@ -38,25 +20,23 @@ pub fn begin(
     initial_window_packets: u64,
     initial_rtt: u64,
     max_ack_delay: u64,
-) -> After
+) -> After<u64>
     ensures { BeginServed c max_datagram_size initial_window_packets initial_rtt max_ack_delay result.answer result.connection }
 {
     let mut words = c.words;
-    let values = c.values;
-    let a = serve::begin::begin(
+    let done = serve::begin::begin(
         &mut words,
-        values,
+        c.values,
         max_datagram_size,
         initial_window_packets,
         initial_rtt,
         max_ack_delay,
     );
-    let after = a.values;
     After {
-        answer: a.answer,
+        answer: done.answer,
         connection: Connection {
-            words: words,
-            values: after,
+            words,
+            values: done.values,
         },
     }
 }
@@ -71,20 +51,18 @@ pub fn on_packet_sent(
     flags: u8,
     handle: u64,
     status: u8,
-) -> After
+) -> After<u64>
     ensures { SentServed c time space number size flags handle status result.answer result.connection }
 {
     let mut words = c.words;
-    let values = c.values;
-    let a = serve::sent::on_packet_sent(
-        &mut words, values, time, space, number, size, flags, handle, status,
+    let done = serve::sent::on_packet_sent(
+        &mut words, c.values, time, space, number, size, flags, handle, status,
     );
-    let after = a.values;
     After {
-        answer: a.answer,
+        answer: done.answer,
         connection: Connection {
-            words: words,
-            values: after,
+            words,
+            values: done.values,
         },
     }
 }
@@ -99,126 +77,110 @@ pub fn on_ack_received(
     status: u8,
     limited: u8,
     skipped: u64,
-) -> AfterAck
+) -> After<AckAnswer>
     ensures { AckServed c time space ranges.now delay status limited skipped result.answer result.connection }
 {
     let mut words = c.words;
-    let values = c.values;
-    let a = serve::ack::on_ack_received(
-        &mut words, values, time, space, ranges, delay, status, limited, skipped,
+    let done = serve::ack::on_ack_received(
+        &mut words, c.values, time, space, ranges, delay, status, limited, skipped,
     );
-    let answer = a.answer;
-    let after = a.values;
-    AfterAck {
-        answer: answer,
+    After {
+        answer: done.answer,
         connection: Connection {
-            words: words,
-            values: after,
+            words,
+            values: done.values,
         },
     }
 }
 
 // Refusals 1, 2, 6 and 7. 000 on_loss_detection_timeout
-pub fn on_loss_detection_timeout(c: Connection, time: u64, status: u8) -> AfterTimeout
+pub fn on_loss_detection_timeout(c: Connection, time: u64, status: u8) -> After<TimeoutAnswer>
     ensures { TimeoutServed c time status result.answer result.connection }
 {
     let mut words = c.words;
-    let values = c.values;
-    let a = serve::timeouts::on_loss_detection_timeout(&mut words, values, time, status);
-    let answer = a.answer;
-    let after = a.values;
-    AfterTimeout {
-        answer: answer,
+    let done = serve::timeouts::on_loss_detection_timeout(&mut words, c.values, time, status);
+    After {
+        answer: done.answer,
         connection: Connection {
-            words: words,
-            values: after,
+            words,
+            values: done.values,
         },
     }
 }
 
 // Refusals 1, 2 and 7. 000 on_pkt_num_space_discarded
-pub fn on_pkt_num_space_discarded(c: Connection, time: u64, space: u64, status: u8) -> After
+pub fn on_pkt_num_space_discarded(c: Connection, time: u64, space: u64, status: u8) -> After<u64>
     ensures { DiscardServed c time space status result.answer result.connection }
 {
     let mut words = c.words;
-    let values = c.values;
-    let a = serve::discard::on_pkt_num_space_discarded(&mut words, values, time, space, status);
-    let after = a.values;
+    let done = serve::discard::on_pkt_num_space_discarded(
+        &mut words, c.values, time, space, status,
+    );
     After {
-        answer: a.answer,
+        answer: done.answer,
         connection: Connection {
-            words: words,
-            values: after,
+            words,
+            values: done.values,
         },
     }
 }
 
 // Refusals 2 and 7. 000 pmtud_update_max_datagram_size
-pub fn pmtud_update_max_datagram_size(c: Connection, size: u64) -> After
+pub fn pmtud_update_max_datagram_size(c: Connection, size: u64) -> After<u64>
     ensures { SizeServed c size result.answer result.connection }
 {
     let mut words = c.words;
-    let values = c.values;
-    let a = serve::resize::pmtud_update_max_datagram_size(&mut words, values, size);
-    let after = a.values;
+    let done = serve::resize::pmtud_update_max_datagram_size(&mut words, c.values, size);
     After {
-        answer: a.answer,
+        answer: done.answer,
         connection: Connection {
-            words: words,
-            values: after,
+            words,
+            values: done.values,
         },
     }
 }
 
 // Refusal 2. 000 next_acked_frame
-pub fn next_acked_frame(c: Connection, space: u64) -> AfterTake
+pub fn next_acked_frame(c: Connection, space: u64) -> After<TakeAnswer>
     ensures { TakeAckedServed c space result.answer result.connection }
 {
     let mut words = c.words;
-    let values = c.values;
-    let a = serve::take::next_acked_frame(&mut words, values, space);
-    let answer = a.answer;
-    let after = a.values;
-    AfterTake {
-        answer: answer,
+    let done = serve::take::next_acked_frame(&mut words, c.values, space);
+    After {
+        answer: done.answer,
         connection: Connection {
-            words: words,
-            values: after,
+            words,
+            values: done.values,
         },
     }
 }
 
 // Refusal 2. 000 next_lost_frame
-pub fn next_lost_frame(c: Connection, space: u64) -> AfterTake
+pub fn next_lost_frame(c: Connection, space: u64) -> After<TakeAnswer>
     ensures { TakeLostServed c space result.answer result.connection }
 {
     let mut words = c.words;
-    let values = c.values;
-    let a = serve::take::next_lost_frame(&mut words, values, space);
-    let answer = a.answer;
-    let after = a.values;
-    AfterTake {
-        answer: answer,
+    let done = serve::take::next_lost_frame(&mut words, c.values, space);
+    After {
+        answer: done.answer,
         connection: Connection {
-            words: words,
-            values: after,
+            words,
+            values: done.values,
         },
     }
 }
 
 // Refusal 2. 000 ping_sent
-pub fn ping_sent(c: Connection, space: u64) -> After
+pub fn ping_sent(c: Connection, space: u64) -> After<u64>
     ensures { PingServed c space result.answer result.connection }
 {
     let mut words = c.words;
-    let values = c.values;
-    let a = serve::take::ping_sent(&mut words, values, space);
-    let after = a.values;
+    let done = serve::take::ping_sent(&mut words, c.values, space);
     After {
-        answer: a.answer,
+        answer: done.answer,
         connection: Connection {
-            words: words,
-            values: after,
+            words,
+            values: done.values,
         },
     }
 }

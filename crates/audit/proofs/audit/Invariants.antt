@@ -1,10 +1,8 @@
--- `audit::audit` meets its contract. The invariant: what is left, added to the total so far, makes up the total of all. The measure is the records left.
-use Rattle.std.proofs.Common.{length, drop, ◌-◌, ◌≡◌, ◌≤◌}
-use Rattle.audit.specs.Total.{total_of, added_up}
+-- `audit` meets its contract. The invariant: the total so far and what is still out of the records left are the whole.
+use Rattle.std.proofs.Common.{drop, ◌+◌, ◌≡◌, ◌≤◌}
+use Rattle.arith.specs.Whole.{limit}
+use Rattle.model.specs.Connection.{outstanding}
 use Rattle.audit.proofs.audit.Given as goal
 
-abbrev pub invariant-loop-i : goal.invariant-loop-i
-invariant-loop-i l = (l.i ≤ length l.records) × (added_up l.total (drop l.i l.records) ≡ total_of l.records)
-
-abbrev pub decreases-loop-i : goal.decreases-loop-i
-decreases-loop-i l = length l.records - l.i
+abbrev pub invariant-loop-r : goal.invariant-loop-r
+invariant-loop-r l = (l.total ≤ limit) × (l.total + outstanding (drop l.r-index l.records) ≡ outstanding l.records)

@@ -1,29 +1,25 @@
 -- `commit::commit` meets its contract. The loop's invariant: memory and queues are what the first i places leave (`After`), and no place has queued more than one handle.
--- The measure is what is left of the places. Assumes nothing.
-use native.Mathlib.Omega.{arith}
-use Rattle.commit.proofs.Turns.{falls, after-start, after_turn, after-end, turn-acked, turn-lost}
+-- Assumes nothing.
+use Rattle.std.proofs.Common.{rules, arith, min, max, ◌≡◌, ◌≤◌}
+use Rattle.model.specs.Numbers.{capacity}
+use Rattle.commit.proofs.Turns.{after_start, after_turn, after_end, turn_acked, turn_lost}
 use Rattle.commit.proofs.commit.Goals as goal
 
 pub loop-i-init : goal.loop-i-init
-loop-i-init c =
-    (omega arith, (after-start _ _ _ _ _ _ _ _ _ _ _ _ _ c.held.ensures c.held-2.ensures, (omega arith, omega arith)))
-
-pub settle-q-requires : goal.settle-q-requires
-settle-q-requires c = (omega arith, omega arith)
-
-pub loop-i-smaller : goal.loop-i-smaller
-loop-i-smaller c = falls _ _ c.loop-i-test.true
+loop-i-init c = (after_start _ _ _ _ _ _ _ _ _ _ _ _ _ c.held-2.ensures c.held-3.ensures, (omega arith, omega arith))
 
 pub loop-i-preserved : goal.loop-i-preserved
 loop-i-preserved c =
-    let inv = c.loop-i.invariant in (
-      omega arith,
-      (
-        after_turn _ _ _ _ _ _ _ _ _ _ _ _ _ _ _ _ _ _ _ c.stamp_of-stamp.ensures c.passed_over-count.ensures c.loop-i-test.true inv.1.0 c.settle-q.ensures,
-        (omega (arith, turn-acked _ _ _ _ _ _ _ _ _ _ _ _ c.settle-q.ensures), omega (arith, turn-lost _ _ _ _ _ _ _ _ _ _ _ _ c.settle-q.ensures)),
-      ),
+    let inv = c.loop-i.invariant in
+    let a = c.args in
+    let count : c.min-count.result ≡ min (max a.covered.now.last a.t.stop) (min a.len capacity) = search rules in (
+      after_turn _ _ _ _ _ _ _ _ _ _ _ _ _ _ _ _ _ _ _ c.stamp_of-stamp.ensures count c.loop-i-test.true inv.0 c.settle-after.ensures,
+      (omega (arith, turn_acked _ _ _ _ _ _ _ _ _ _ _ _ c.settle-after.ensures), omega (arith, turn_lost _ _ _ _ _ _ _ _ _ _ _ _ c.settle-after.ensures)),
     )
 
 pub returns : goal.returns
 returns c =
-    after-end _ _ _ _ _ _ _ _ _ _ _ _ _ _ _ _ _ c.stamp_of-stamp.ensures c.passed_over-count.ensures c.loop-i.invariant.0 c.loop-i-test.false c.loop-i.invariant.1.0
+    let a = c.args in
+    let count : c.min-count.result ≡ min (max a.covered.now.last a.t.stop) (min a.len capacity) = search rules in
+    let le : c.loop-i.i ≤ c.min-count.result = omega arith in
+    after_end _ _ _ _ _ _ _ _ _ _ _ _ _ _ _ _ _ c.stamp_of-stamp.ensures count le c.loop-i-test.false c.loop-i.invariant.0

@@ -1,5 +1,5 @@
--- `send_all` meets its contract. The invariant: before turn i the record is that after the packets below i. The measure is the packets left.
-use Rattle.std.proofs.Common.{◌<◌, ◌≤◌, length, arith}
+-- `send_all` meets its contract. The invariant: before turn i the record is that after the packets below i.
+use Rattle.std.proofs.Common.{◌<◌, ◌≤◌, length, refl, arith}
 use Rattle.drive.proofs.Sends.{first-turn, next-turn, last_turn}
 use Rattle.drive.proofs.send_all.Goals as goal
 
@@ -7,9 +7,7 @@ pub loop-i-init : goal.loop-i-init
 loop-i-init c = first-turn _ _ _
 
 pub loop-i-preserved : goal.loop-i-preserved
-loop-i-preserved c =
-    let more : c.loop-i.i < length c.args.sizes.now = omega arith in
-    next-turn _ _ _ _ _ c.loop-i.invariant more _ _ _ c.size_at-size.ensures c.skavvilet_on_packet_sent.ensures
+loop-i-preserved c = next-turn _ _ _ _ _ c.loop-i.invariant (omega arith) _ _ _ refl c.skavvilet_on_packet_sent.ensures
 
 pub returns : goal.returns
 returns c =

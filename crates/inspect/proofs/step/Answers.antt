@@ -1,23 +1,17 @@
 -- `step` meets its contract: a turn whose line is put, by `step-inspects`.
-use mathlib.Core.Path.{refl}
 use native.Mathlib.Omega.{arith}
-use Rattle.connection.specs.View.{connection_of}
 use Rattle.trace.proofs.Puts.{put_same}
 use Rattle.inspect.proofs.Lines.{replay-line, step-inspects}
 use Rattle.inspect.proofs.step.Goals as goal
 
 pub returns-in_default : goal.returns-in_default
 returns-in_default c =
-    let turned = c.turn-turned.result in
-    let told = c.tell.ensures in
-    step-inspects _ _ _ _ _ _ _ (omega (arith, c.type_inv.bytes c.args.r.at)) (omega arith) c.requires.0 c.turn-turned.ensures _ _ _ c.requires.1
-    (λ m. put_same (replay-line turned.met c.args.r.at turned.replay (connection_of m turned.replay.state) c.in_default.not-Event) (told.put m))
-    told.ended
-    told.replay
+    step-inspects _ _ _ _ (omega (arith, c.type_inv.bytes c.args.r.now.at)) (omega arith) c.requires c.turn-met.ensures _ _
+    (put_same (replay-line c.turn-met.result c.args.r.now.at c.turn-met.new.self c.in_default.not-Event) (rw c.clear.ensures at c.tell.ensures.put))
+    c.tell.ensures.ended
 
 pub returns : goal.returns
 returns c =
-    step-inspects _ _ _ _ _ _ _ (omega (arith, c.type_inv.bytes c.args.r.at)) (omega arith) c.requires.0 c.turn-turned.ensures _ _ _ c.requires.1
-    (λ m. rw c.in-Event.is (c.put_inspected.ensures m))
+    step-inspects _ _ _ _ (omega (arith, c.type_inv.bytes c.args.r.now.at)) (omega arith) c.requires c.turn-met.ensures _ _
+    (rw c.in-Event.is (rw c.clear.ensures at (c.put_inspected.ensures c.turn-met.new.self.words)))
     (rw c.in-Event.is)
-    refl

@@ -6,16 +6,16 @@ use mathlib.Core.Path.{sym, ap, ◌∙◌}
 use Rattle.timeout.proofs.on_loss_detection_timeout.Goals as goal
 
 pub returns-then-not-on_clock : goal.returns-then-not-on_clock
-returns-then-not-on_clock c = late _ _ _ _ (sym c.on_clock.ensures ∙ c.if-not-on_clock.true)
+returns-then-not-on_clock c = rw c.refused.ensures (late _ _ _ _ (sym c.on_clock.ensures ∙ c.if-not-on_clock.true))
 
 pub loss_timeout-requires : goal.loss_timeout-requires
 loss_timeout-requires c =
     (clock-limit _ _ (sym c.on_clock.ensures ∙ c.if-not-on_clock.false), rw c.loss_time_and_space-earliest.ensures (earliest-small _ _ _))
 
-pub returns-in-At : goal.returns-in-At
-returns-in-At c =
-    as-loss _ _ _ _ (sym c.on_clock.ensures ∙ c.if-not-on_clock.false) (ap (λ (x : TimeAndSpace). x.time) (sym c.loss_time_and_space-earliest.ensures) ∙ c.in-At.is) (rw (← c.loss_time_and_space-earliest.ensures) c.loss_timeout.ensures)
+pub returns-in-Some : goal.returns-in-Some
+returns-in-Some c =
+    as-loss _ _ _ _ (sym c.on_clock.ensures ∙ c.if-not-on_clock.false) (ap (λ (x : TimeAndSpace). x.time) (sym c.loss_time_and_space-earliest.ensures) ∙ c.in-Some.is) (rw (← c.loss_time_and_space-earliest.ensures) c.loss_timeout.ensures)
 
-pub returns-in-Unset : goal.returns-in-Unset
-returns-in-Unset c =
-    as-probe _ _ _ _ (sym c.on_clock.ensures ∙ c.if-not-on_clock.false) (ap (λ (x : TimeAndSpace). x.time) (sym c.loss_time_and_space-earliest.ensures) ∙ c.in-Unset.is) c.probe_timeout.ensures
+pub returns-in-None : goal.returns-in-None
+returns-in-None c =
+    as-probe _ _ _ _ (sym c.on_clock.ensures ∙ c.if-not-on_clock.false) (ap (λ (x : TimeAndSpace). x.time) (sym c.loss_time_and_space-earliest.ensures) ∙ c.in-None.is) c.probe_timeout.ensures

@@ -2,11 +2,10 @@
 use Rattle.acks.proofs.Flags.{Found}
 use Rattle.records.specs.View.{records_of}
 use lib.ListN.{length}
-use Prim.Native.Nat.{◌-◌, ◌≤◌}
 use Rattle.acks.proofs.cover.cover.Given as goal
 
-abbrev pub invariant-loop-k : goal.invariant-loop-k
-invariant-loop-k l = (l.k ≤ length l.words) × Found (records_of l.m l.n l.first l.count) l.words l.k l.w l.flags
+abbrev pub invariant-loop-rest : goal.invariant-loop-rest
+invariant-loop-rest l = Found (records_of l.m l.n l.first l.count) l.words l.rest l.w l.flags
 
-abbrev pub decreases-loop-k : goal.decreases-loop-k
-decreases-loop-k l = length l.words - l.k
+abbrev pub decreases-loop-rest : goal.decreases-loop-rest
+decreases-loop-rest l = length l.rest

@@ -1,17 +1,14 @@
 -- `acks::cover::walk` meets its contract. Invariant: the places passed are flagged, and what is left to count is counted from there.
-use Rattle.acks.proofs.Flags.{walking-none, walking_on, walking-stop, walking-end}
+use Rattle.acks.proofs.Flags.{walking_on, walking_stop, walking_end}
 use Rattle.acks.proofs.cover.walk.Goals as goal
 
-pub loop-i-init : goal.loop-i-init
-loop-i-init c = walking-none _ _ _ _ _ _ _ c.requires.1
-
-pub returns-then-end-number_at : goal.returns-then-end-number_at
-returns-then-end-number_at c =
-    walking-stop c.loop-i.invariant c.loop-i-test.true (rw c.number_at.ensures at c.if-end-number_at.true)
+pub returns-then-end-word_at : goal.returns-then-end-word_at
+returns-then-end-word_at c =
+    walking_stop c.loop-i.invariant c.loop-i-test.true (rw c.word_at.ensures at c.if-end-word_at.true)
 
 pub loop-i-preserved : goal.loop-i-preserved
 loop-i-preserved c =
-    walking_on c.loop-i.invariant c.loop-i-test.true c.requires.2 (rw c.number_at.ensures at c.if-end-number_at.false)
+    walking_on c.loop-i.invariant c.loop-i-test.true c.requires.2 (rw c.word_at.ensures at c.if-end-word_at.false)
 
 pub returns : goal.returns
-returns c = walking-end c.loop-i.invariant c.loop-i-test.false
+returns c = walking_end c.loop-i.invariant c.loop-i-test.false

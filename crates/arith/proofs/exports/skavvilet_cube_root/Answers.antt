@@ -3,9 +3,6 @@ use lib.Ieee.{of_bits}
 use Rattle.arith.proofs.Answer.{root_is}
 use Rattle.arith.proofs.exports.skavvilet_cube_root.Goals as goal
 
-pub returns-in-Is : goal.returns-in-Is
-returns-in-Is c = rw (← root_is c.cube_root.ensures, c.in-Is.is)
-
-pub returns-in-Refused : goal.returns-in-Refused
+pub returns : goal.returns
 unfolding of_bits
-returns-in-Refused c = rw (← root_is c.cube_root.ensures, c.in-Refused.is)
+returns c = rw (← root_is c.cube_root.ensures) c.unwrap_or.ensures

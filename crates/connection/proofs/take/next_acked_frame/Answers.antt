@@ -5,9 +5,9 @@ use Rattle.connection.specs.View.{normal_of}
 use Rattle.connection.proofs.take.next_acked_frame.Goals as goal
 
 pub returns-then-n-ge3 : goal.returns-then-n-ge3
-returns-then-n-ge3 c = acked-refused c.args.m.now c.args.n c.args.s c.if-n-ge3.true
+returns-then-n-ge3 c = rw c.refused.ensures (acked-refused c.args.m.now c.args.n c.args.s c.if-n-ge3.true)
 
 pub returns : goal.returns
 unfolding normal_of
 returns c =
-    acked-does c.args.m.now c.args.n c.args.s c.if-n-ge3.false (rw (c.normal-p.ensures, c.space_at.ensures) at c.newest_handle-handle.ensures) (c.with_counts.ensures ∙ rw (c.one_less.ensures, c.normal-p.ensures, c.space_at.ensures))
+    acked-does c.args.m.now c.args.n c.args.s c.if-n-ge3.false (rw (c.normal.ensures, c.space_at.ensures) at c.newest_handle-handle.ensures) (c.with_counts.ensures ∙ rw (c.saturating_sub.ensures, c.normal.ensures, c.space_at.ensures))

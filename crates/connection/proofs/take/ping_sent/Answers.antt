@@ -10,4 +10,4 @@ returns-then-n-ge3 c = λ m. rw c.refused.ensures (ping-refused m c.args.n c.arg
 pub returns : goal.returns
 unfolding normal_of
 returns c =
-    λ m. ping-does m c.args.n c.args.s c.if-n-ge3.false (c.with_space.ensures ∙ rw (c.with_probes-q.ensures, c.less.ensures, c.normal-p.ensures, c.space_at.ensures))
+    λ m. ping-does m c.args.n c.args.s c.if-n-ge3.false (c.with_space.ensures ∙ rw (c.with_probes-q.ensures, c.saturating_sub.ensures, c.normal.ensures, c.space_at.ensures))

@@ -6,14 +6,13 @@ use Rattle.connection.specs.View.{connection_of}
 use Rattle.connection.specs.Readouts.{cwnd_available_of}
 use Rattle.field.specs.Words.{apart}
 use Rattle.field.specs.Inspect.{shared_words, available_in, inspected}
-use Rattle.field.proofs.Naming.{put-last-word}
+use Rattle.field.proofs.Naming.{put_last}
 use Rattle.field.proofs.line.put_inspected.Goals as goal
 
 pub returns : goal.returns
 unfolding connection_of cwnd_available_of available_in inspected
 returns c =
     λ m.
-    let args = c.args in
-    put_then c.put_fields-a.ensures (put_then c.put_told-b.ensures
-    (put_then (put_same (ap (λ (n : ℕ). shared_words apart args.s.shared n) (c.cwnd_available.ensures m)) c.put_shared-c.ensures)
-    (put_then (c.put_spaces-d.ensures m) (put-last-word c.put_byte.ensures))))
+    put_then c.put_fields.ensures (put_then c.put_told.ensures
+    (put_then (put_same (ap (λ (n : ℕ). shared_words apart c.args.s.shared n) (c.cwnd_available.ensures m)) c.put_shared.ensures)
+    (put_then (c.put_spaces.ensures m) (put_last c.put_byte.ensures))))

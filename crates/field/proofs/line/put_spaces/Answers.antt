@@ -2,10 +2,9 @@
 use Rattle.trace.proofs.Puts.{put_then}
 use Rattle.connection.specs.View.{connection_of}
 use Rattle.field.specs.Inspect.{spaces_words}
-use Rattle.field.proofs.Naming.{put-last-word}
+use Rattle.field.proofs.Naming.{put_last}
 use Rattle.field.proofs.line.put_spaces.Goals as goal
 
 pub returns : goal.returns
 unfolding connection_of spaces_words
-returns c =
-    λ m. put_then (c.put_space-a.ensures m 0) (put_then (c.put_space-b.ensures m 1) (put-last-word (c.put_space.ensures m 2)))
+returns c = λ m. put_then (c.put_space.ensures m 0) (put_then (c.put_space-2.ensures m 1) (put_last (c.put_space-3.ensures m 2)))

@@ -1,10 +1,9 @@
 -- `shared::put_counts` meets its contract, word after word.
-use Rattle.trace.proofs.Puts.{put_then}
+use Rattle.std.proofs.Common.{rules}
 use Rattle.field.specs.Inspect.{count_words}
-use Rattle.field.proofs.Naming.{put-last-word}
+use Rattle.field.proofs.Naming.{sentences}
 use Rattle.field.proofs.shared.put_counts.Goals as goal
 
 pub returns : goal.returns
 unfolding count_words
-returns c =
-    put_then c.put_number-a.ensures (put_then c.put_number-b.ensures (put-last-word c.put_number.ensures))
+returns c = search (rules, sentences)

@@ -1,10 +1,12 @@
 -- `shared::put_rtt` meets its contract, word after word.
 use Rattle.trace.proofs.Puts.{put_then}
 use Rattle.field.specs.Inspect.{rtt_words}
-use Rattle.field.proofs.Naming.{put-last-word}
+use Rattle.field.proofs.Naming.{put_last}
 use Rattle.field.proofs.shared.put_rtt.Goals as goal
 
 pub returns : goal.returns
 unfolding rtt_words
 returns c =
-    put_then c.put_number-a.ensures (put_then c.put_number-b.ensures (put_then c.put_number-c.ensures (put_then c.put_set-d.ensures (put-last-word c.put_set.ensures))))
+    let min = rw c.then_some.ensures at c.put_value-4.ensures in
+    let max = rw c.then_some-2.ensures at c.put_value-5.ensures in
+    put_then c.put_value.ensures (put_then c.put_value-2.ensures (put_then c.put_value-3.ensures (put_then min (put_last max))))

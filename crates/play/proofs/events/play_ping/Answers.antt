@@ -1,11 +1,12 @@
 -- `events::play_ping` meets its contract: the event's own claim, lifted.
 use Prim.Native.Nat.{ℕ}
+use mathlib.Core.Path.{refl}
 use Rattle.model.specs.Run as run
 use Rattle.trace.specs.Says.{event_says}
-use Rattle.play.proofs.Lifted.{told, done-says}
+use Rattle.play.proofs.Lifted.{lifts, done-says}
 use Rattle.play.proofs.events.play_ping.Goals as goal
 
 pub returns : goal.returns
 unfolding run.step event_says
-returns c m =
-    rw c.done.ensures (told (λ (x : ℕ). run.done) _ _ _ (done-says c.ping_sent.result.outcome) (c.ping_sent.ensures m))
+returns c =
+    λ m. rw c.told.ensures (lifts (λ (x : ℕ). run.done) _ _ _ (done-says c.ping_sent.result.outcome _ refl) (c.ping_sent.ensures m))

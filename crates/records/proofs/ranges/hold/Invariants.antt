@@ -1,12 +1,11 @@
--- `ranges::hold` meets its contract. The invariant: the ranges from k on hold x if and only if all do.
+-- `ranges::hold` meets its contract. The invariant: the words left hold x if and only if all do.
 use mathlib.Core.Path.{◌≡◌}
-use Prim.Native.Nat.{◌-◌, ◌≤◌}
-use lib.ListN.{length, drop}
+use lib.ListN.{length}
 use Rattle.model.specs.Ranges.{hold}
 use Rattle.records.proofs.ranges.hold.Given as goal
 
-abbrev pub invariant-loop-k : goal.invariant-loop-k
-invariant-loop-k l = (l.k ≤ length l.words) × (hold (drop l.k l.words) l.x ≡ hold l.words l.x)
+abbrev pub invariant-loop-rest : goal.invariant-loop-rest
+invariant-loop-rest l = hold l.rest l.x ≡ hold l.words l.x
 
-abbrev pub decreases-loop-k : goal.decreases-loop-k
-decreases-loop-k l = length l.words - l.k
+abbrev pub decreases-loop-rest : goal.decreases-loop-rest
+decreases-loop-rest l = length l.rest

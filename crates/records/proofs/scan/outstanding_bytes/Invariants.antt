@@ -7,7 +7,4 @@ use Rattle.records.specs.View.{records_of}
 use Rattle.records.proofs.scan.outstanding_bytes.Given as goal
 
 abbrev pub invariant-loop-i : goal.invariant-loop-i
-invariant-loop-i l = (l.i ≤ l.count) × ((l.total ≤ limit) × (l.total + outstanding (records_of l.m l.n (l.first + l.i) (l.count - l.i)) ≡ outstanding (records_of l.m l.n l.first l.count)))
-
-abbrev pub decreases-loop-i : goal.decreases-loop-i
-decreases-loop-i l = l.count - l.i
+invariant-loop-i l = (l.total ≤ limit) × (l.total + outstanding (records_of l.m l.n (l.first + l.i) (l.count - l.i)) ≡ outstanding (records_of l.m l.n l.first l.count))

@@ -3,12 +3,12 @@ use Rattle.serve.specs.Events.{begin_step, begin_lay}
 use Rattle.serve.proofs.Serve.{begins, unbegun}
 use Rattle.serve.proofs.begin.begin.Goals as goal
 
-pub returns-in-Accepted : goal.returns-in-Accepted
+pub returns-in-Ok : goal.returns-in-Ok
 unfolding begin_step begin_lay
-returns-in-Accepted c =
-    rw c.values_of.ensures (begins _ _ _ _ _ c.in-Accepted.is (rw c.settings_of.ensures at c.fresh-begun.ensures))
+returns-in-Ok c =
+    rw c.from.ensures (begins _ _ _ _ _ c.in-Ok.is (rw c.settings_of.ensures at c.fresh.ensures))
 
-pub returns-in-Refused : goal.returns-in-Refused
+pub returns-in-Err : goal.returns-in-Err
 unfolding begin_step begin_lay
-returns-in-Refused c =
-    rw c.number_of.ensures (unbegun _ _ _ _ _ c.in-Refused.is (rw c.settings_of.ensures at c.fresh-begun.ensures))
+returns-in-Err c =
+    rw (c.from-in-Err-2.ensures, c.from-in-Err.ensures) (unbegun _ _ _ _ _ c.in-Err.is (rw c.settings_of.ensures at c.fresh.ensures))

@@ -1,19 +1,18 @@
 -- `discard::on_pkt_num_space_discarded` meets its contract: by what is claimed of the event on words and state.
 use mathlib.Core.Path.{sym, ◌∙◌}
-use Rattle.model.specs.Numbers.{number_of}
 use Rattle.model.specs.Run.{refusal_of}
 use Rattle.serve.specs.Record.{stands_for}
 use Rattle.serve.specs.Events.{discard_step, space_lay}
-use Rattle.serve.proofs.Serve.{serves, unserved}
+use Rattle.serve.proofs.Serve.{serves, unserved, number-says, kept-says}
 use Rattle.serve.proofs.discard.on_pkt_num_space_discarded.Goals as goal
 
 pub returns-then-not-is_sealed : goal.returns-then-not-is_sealed
-unfolding discard_step number_of
-returns-then-not-is_sealed c = unserved refusal_of _ _ _ (sym c.is_sealed.ensures ∙ c.if-not-is_sealed.true)
+unfolding discard_step
+returns-then-not-is_sealed c = rw c.not_begun.ensures (unserved refusal_of _ _ _ (sym c.is_sealed.ensures ∙ c.if-not-is_sealed.true))
 
 pub returns : goal.returns
 unfolding discard_step space_lay stands_for
 returns c =
-    rw c.done.ensures
+    rw (c.done.ensures, number-says, kept-says)
     (serves refusal_of _ _ c.args.v _ _ _ _ _ (sym c.is_sealed.ensures ∙ c.if-not-is_sealed.false)
-    (rw (c.opened.ensures, c.status_of.ensures) at c.on_pkt_num_space_discarded-a.ensures))
+    (rw (c.from.ensures, c.into.ensures) at c.on_pkt_num_space_discarded.ensures))

@@ -1,14 +1,10 @@
 -- `readouts::read` meets its contract: by what is claimed of each.
 use Rattle.serve.specs.Record.{stands_for}
 use Rattle.serve.specs.Readouts.{readouts_of}
+use Rattle.serve.proofs.Serve.{too-large-says, span-says}
 use Rattle.serve.proofs.readouts.read.Goals as goal
 
-pub returns-in-SpanOf : goal.returns-in-SpanOf
+pub returns : goal.returns
 unfolding readouts_of stands_for
-returns-in-SpanOf c =
-    λ m. rw (← c.opened-s.ensures, ← c.cwnd_available-available.ensures m, ← c.lost_waiting-waiting.ensures m, ← c.elicits-elicited.ensures m, ← c.pto.ensures m, c.in-SpanOf.is)
-
-pub returns-in-TooLong : goal.returns-in-TooLong
-unfolding readouts_of stands_for
-returns-in-TooLong c =
-    λ m. rw (← c.opened-s.ensures, ← c.cwnd_available-available.ensures m, ← c.lost_waiting-waiting.ensures m, ← c.elicits-elicited.ensures m, ← c.pto.ensures m, c.in-TooLong.is)
+returns c =
+    λ m. rw (c.cwnd_available.ensures m, c.from.ensures, c.is_err.ensures.value, c.unwrap_or.ensures, c.pto-pto.ensures m, c.elicits.ensures m, c.lost_waiting.ensures m, c.from-s.ensures, too-large-says, span-says)

@@ -1,19 +1,18 @@
 -- `sent::on_packet_sent` meets its contract: by what is claimed of the event on words and state.
-use Rattle.model.specs.Numbers.{number_of}
 use mathlib.Core.Path.{sym, ◌∙◌}
 use Rattle.model.specs.Run.{refusal_of}
 use Rattle.serve.specs.Record.{stands_for}
 use Rattle.serve.specs.Events.{sent_step, sent_lay}
-use Rattle.serve.proofs.Serve.{serves, unserved}
+use Rattle.serve.proofs.Serve.{serves, unserved, number-says, kept-says}
 use Rattle.serve.proofs.sent.on_packet_sent.Goals as goal
 
 pub returns-then-not-is_sealed : goal.returns-then-not-is_sealed
-unfolding sent_step number_of
-returns-then-not-is_sealed c = unserved refusal_of _ _ _ (sym c.is_sealed.ensures ∙ c.if-not-is_sealed.true)
+unfolding sent_step
+returns-then-not-is_sealed c = rw c.not_begun.ensures (unserved refusal_of _ _ _ (sym c.is_sealed.ensures ∙ c.if-not-is_sealed.true))
 
 pub returns : goal.returns
 unfolding sent_step sent_lay stands_for
 returns c =
-    rw c.done.ensures
+    rw (c.done.ensures, number-says, kept-says)
     (serves refusal_of _ _ c.args.v _ _ _ _ _ (sym c.is_sealed.ensures ∙ c.if-not-is_sealed.false)
-    (rw (c.opened.ensures, c.packet_of-packet.ensures, c.status_of.ensures) at c.on_packet_sent-a.ensures))
+    (rw (c.from.ensures, c.packet_of.ensures, c.into.ensures) at c.on_packet_sent.ensures))

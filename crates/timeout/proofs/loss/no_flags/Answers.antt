@@ -1,6 +1,9 @@
--- `loss::no_flags` meets its contract: each of 256 flags is 0, and none stands past them.
+-- `loss::no_flags` meets its contract: no flag is set.
 use Rattle.timeout.proofs.Losing.{unflagged}
 use Rattle.timeout.proofs.loss.no_flags.Goals as goal
 
 pub returns : goal.returns
 returns c = unflagged
+
+pub invariant_of-result : goal.invariant_of-result
+invariant_of-result c = record { past = λ i le. unflagged i }

@@ -7,6 +7,6 @@ pub returns : goal.returns
 unfolding probed_state probed_words
 returns c =
     record {
-      state = c.with_space.ensures ∙ rw (c.with_probes.ensures, c.queue_again-lost_pto.ensures.count, c.normal-q.ensures, c.space_at.ensures) refl;
-      memory = c.queue_again-lost_pto.ensures.memory ∙ rw (c.normal-q.ensures, c.space_at.ensures) refl;
+      state = c.with_space.ensures ∙ rw (c.with_probes.ensures, c.queue_again-lost_pto.ensures.count, c.normal.ensures, c.space_at.ensures) refl;
+      memory = c.queue_again-lost_pto.ensures.memory ∙ rw (c.normal.ensures, c.space_at.ensures) refl;
     }

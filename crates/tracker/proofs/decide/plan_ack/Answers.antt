@@ -3,18 +3,19 @@ use Rattle.model.specs.Ranges.{largest_for}
 use Rattle.tracker.proofs.Decided.{met_all}
 use Rattle.tracker.specs.Plan.{plan_ack}
 use mathlib.Core.Path.{refl}
+use Rattle.std.proofs.Common.{rules}
 use Rattle.tracker.proofs.decide.plan_ack.Goals as goal
 
-pub returns-in-Fits : goal.returns-in-Fits
+pub returns : goal.returns
 unfolding plan_ack
-returns-in-Fits c =
-    let z = rw c.largest_for-largest.ensures at c.meet_all-met.ensures in
-    let y = met_all c.args.m.now c.args.n c.args.q c.args.fs.now c.requires.1 (largest_for c.args.q.epoch.largest_acked_packet c.args.words.now) c.args.last c.requires.2 in
-    rw (← y, ← z, c.in-Fits.is, c.plan_met.ensures) refl
+returns c =
+    let z = rw c.largest_for-largest.ensures at c.meet_all.ensures in
+    let y = met_all c.args.m.now c.args.n c.args.q.space c.args.covered.now.flags c.args.q.len_in (largest_for c.args.q.space.epoch.largest_acked_packet c.args.words.now) c.args.covered.now.last c.args.covered.now.past in
+    rw (← y, ← z, c.in_ok-t.was, c.plan_met.ensures) refl
 
-pub returns-in-Refused : goal.returns-in-Refused
+pub returns-in_err-t : goal.returns-in_err-t
 unfolding plan_ack
-returns-in-Refused c =
-    let z = rw c.largest_for-largest.ensures at c.meet_all-met.ensures in
-    let y = met_all c.args.m.now c.args.n c.args.q c.args.fs.now c.requires.1 (largest_for c.args.q.epoch.largest_acked_packet c.args.words.now) c.args.last c.requires.2 in
-    rw (← y, ← z, c.in-Refused.is) refl
+returns-in_err-t c =
+    let z = rw c.largest_for-largest.ensures at c.meet_all.ensures in
+    let y = met_all c.args.m.now c.args.n c.args.q.space c.args.covered.now.flags c.args.q.len_in (largest_for c.args.q.space.epoch.largest_acked_packet c.args.words.now) c.args.covered.now.last c.args.covered.now.past in
+    rw (← y, ← z, c.in_err-t.was) (search rules)

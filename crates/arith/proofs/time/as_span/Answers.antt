@@ -1,5 +1,0 @@
--- `arith::time::as_span` meets its contract. By the sum's two cases.
-use Rattle.arith.proofs.time.as_span.Goals as goal
-
-pub returns-in-Fine : goal.returns-in-Fine
-returns-in-Fine c = rw c.in-Fine.is

@@ -1,6 +1,0 @@
--- `words::put_time` meets its contract: a name, and a moment or `-`.
-use Rattle.field.proofs.Naming.{put-named}
-use Rattle.field.proofs.words.put_time.Goals as goal
-
-pub returns : goal.returns
-returns c = put-named c.args.tag.now c.args.name.now c.put_name-place.ensures c.put_timer.ensures

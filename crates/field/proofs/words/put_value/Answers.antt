@@ -1,0 +1,6 @@
+-- `words::put_value` meets its contract: what stands before, the name, `=` and the value.
+use Rattle.trace.proofs.Puts.{put_then}
+use Rattle.field.proofs.words.put_value.Goals as goal
+
+pub returns : goal.returns
+returns g c = put_then c.put_word.ensures (put_then c.put_word-2.ensures (put_then c.put_byte.ensures c.put.ensures))

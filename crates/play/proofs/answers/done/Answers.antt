@@ -1,8 +1,0 @@
--- `answers::done` meets its contract: by the two cases of the answer.
-use Rattle.play.proofs.answers.done.Goals as goal
-
-pub returns-in-Accepted : goal.returns-in-Accepted
-returns-in-Accepted c = rw c.in-Accepted.is
-
-pub returns-in-Refused : goal.returns-in-Refused
-returns-in-Refused c = rw c.in-Refused.is

@@ -1,9 +1,0 @@
--- `memory::time_lost` meets its contract: the two cases of a mark.
-use borrow.Author.Tests.{eq-eqb, ne_eqb}
-use Rattle.records.proofs.memory.time_lost.Goals as goal
-
-pub returns-then-t-eq0 : goal.returns-then-t-eq0
-returns-then-t-eq0 c = rw (eq-eqb _ _ c.if-t-eq0.true)
-
-pub returns-else-t-eq0 : goal.returns-else-t-eq0
-returns-else-t-eq0 c = rw (ne_eqb _ _ c.if-t-eq0.false)
