@@ -10,7 +10,7 @@ use crate::places;
 use arith::refusal::Refusal;
 use arith::time::{Moment, Span};
 use congestion::growth::packet_acked;
-use marks::Covered;
+use marks::Flags;
 use model::Congestion;
 use records::memory::{CAPACITY, Word, Words, record_at, word_at};
 
@@ -36,23 +36,24 @@ fn ack_one(
 
 // The controller after the newly acked records of space n, at time; or the refusal. 000 on_packets_acked
 #[tactic(auto, using(crate::proofs::Turns::each_end))]
-pub fn ack_each(
+pub fn ack_each<F: Flags>(
     m: &Words,
     n: u64,
     head: usize,
     len: usize,
-    covered: &Covered,
+    flags: &F,
+    last: usize,
     g: Congestion,
     time: Moment,
     limited: bool,
     min_rtt: Span,
 ) -> Result<Congestion, Refusal>
-    ensures { result ≡ control (ack_each time limited min_rtt (newly_of (flags_to covered.now.flags (places_of len covered.now.last)) (held_to m.now n head (places_of len covered.now.last)))) g }
+    ensures { result ≡ control (ack_each time limited min_rtt (newly_of (flags_to (F.seen flags.now) (places_of len last)) (held_to m.now n head (places_of len last)))) g }
 {
     let first = head % CAPACITY;
     let mut after = g;
-    for i in 0..places(len, covered.last) {
-        if covered.flags[i] {
+    for i in 0..places(len, last) {
+        if flags.is_set(i) {
             after = ack_one(m, n, first + i, after, time, limited, min_rtt)?;
         }
     }

@@ -8,7 +8,7 @@ ghost use Rattle.acks.specs.Fitted.{fit, fitted, fresh, Room};
 use crate::places;
 use arith::refusal::Refusal;
 use arith::time::add_up;
-use marks::{Covered, Tally, queued};
+use marks::{Flags, Tally, queued};
 use model::Sent;
 use records::memory::{CAPACITY, Words, record_at};
 
@@ -77,17 +77,18 @@ fn meet(largest: u64, i: usize, r: Sent, t: Tally) -> Result<Tally, Refusal>
 
 // What step 1 comes to over the records of space n that are flagged. queued: handles in the acked queue; in_flight: the space's count. 000 on_ack_received
 #[tactic(auto, using(crate::proofs::Fitting::meeting_none, crate::proofs::Fitting::meeting_room, crate::proofs::Fitting::meeting_end))]
-pub fn meet_all(
+pub fn meet_all<F: Flags>(
     m: &Words,
     n: u64,
     head: usize,
     len: usize,
-    covered: &Covered,
+    flags: &F,
+    last: usize,
     largest: u64,
     queued: u64,
     in_flight: u64,
 ) -> Result<Tally, Refusal>
-    ensures { result ≡ fitted (survey largest 0 (flags_to covered.now.flags (places_of len covered.now.last)) (held_to m.now n head (places_of len covered.now.last)) (fresh queued in_flight)) }
+    ensures { result ≡ fitted (survey largest 0 (flags_to (F.seen flags.now) (places_of len last)) (held_to m.now n head (places_of len last)) (fresh queued in_flight)) }
 {
     let first = head % CAPACITY;
     let mut t = Tally {
@@ -101,8 +102,8 @@ pub fn meet_all(
         distance: None,
         spurious_in_flight: false,
     };
-    for i in 0..places(len, covered.last) {
-        if covered.flags[i] {
+    for i in 0..places(len, last) {
+        if flags.is_set(i) {
             t = meet(largest, i, record_at(m, n, first + i), t)?;
         }
     }

@@ -7,7 +7,7 @@ ghost use Rattle.playback.specs.Printed.{Sound, Shows};
 use anyhow::Context;
 use playback::Replay;
 use playback::line::tell;
-use program::{Printer, argument, is_given, print_path};
+use program::{Printer, argument, print_path};
 use std::env::Env;
 use std::io;
 use std::io::Write;
@@ -42,22 +42,25 @@ impl Printer for EachTurn {
     }
 }
 
-// A trace's name on a line, and its lines.
-fn print_case(rt: &(impl Env + Files + Print), i: usize) -> anyhow::Result<()> {
+// A trace's name on a line, and its lines; whether there is an argument i.
+fn print_case(rt: &(impl Env + Files + Print), i: usize) -> anyhow::Result<bool> {
     let mut room = [0; 4096];
-    let path = argument(rt, i, &mut room).context("PATH")?;
+    let Some(path) = argument(rt, i, &mut room) else {
+        return Ok(false);
+    };
+    let path = path.context("PATH")?;
     println!(rt; "{path}").context("standard output")?;
-    print_path::<EachTurn>(rt, path)
+    print_path::<EachTurn>(rt, path)?;
+    Ok(true)
 }
 
 // A case that fails is told on standard error, and the next one follows.
 fn main(rt: HostRuntime) -> anyhow::Result<()> {
     for i in 1..usize::MAX {
-        if !is_given(&rt, i) {
-            return Ok(());
-        }
-        if let Err(error) = print_case(&rt, i) {
-            eprintln!(rt; "{error:#}").context("standard error")?;
+        match print_case(&rt, i) {
+            Ok(true) => {}
+            Ok(false) => return Ok(()),
+            Err(error) => eprintln!(rt; "{error:#}").context("standard error")?,
         }
     }
     Ok(())

@@ -11,7 +11,7 @@ ghost use Rattle.commit.specs.Commit.{Committed};
 ghost use Rattle.commit.specs.Turn.{entry, remark, stamped, is_new, is_gone, Turned};
 
 use arith::time::{LIMIT, Moment};
-use marks::{Covered, acked_mark};
+use marks::{Flags, acked_mark};
 use records::memory::{CAPACITY, Queue, Word, Words, held, store_mark, word_at};
 use records::queue::put;
 
@@ -102,29 +102,30 @@ fn stamp_of(time: Moment) -> u64
     2 * (time.0.min(LIMIT) + 1)
 }
 
-// An event on space n is stored, whose ranges hold the covered records. The handles of the newly acked go to their queue from
+// An event on space n is stored, whose ranges hold the flagged records, all before place last. The handles of the newly acked go to their queue from
 // place q.acked on, those of the lost to theirs from place q.lost on. 01 Acknowledgement (000) 1 and 2, Lost or not
-pub fn commit(
+pub fn commit<F: Flags>(
     m: &mut Words,
     n: u64,
     head: usize,
     len: usize,
-    covered: &Covered,
+    flags: &F,
+    last: usize,
     t: Touched,
     time: Moment,
     q: Queues,
 ) -> Queues
-    ensures { Committed m.old n head len covered.now.flags covered.now.last t.from t.stop t.keep time q.acked q.lost m.new result }
+    ensures { Committed m.old n head len (F.seen flags.now) last t.from t.stop t.keep time q.acked q.lost m.new result }
 {
     let first = head % CAPACITY;
-    let count = covered.last.max(t.stop).min(held(len));
+    let count = last.max(t.stop).min(held(len));
     let stamp = stamp_of(time);
     let mut after = Queues {
         acked: held(q.acked),
         lost: held(q.lost),
     };
     for i in 0..count {
-        after = settle(m, n, first + i, i, covered.flags[i], t, stamp, after);
+        after = settle(m, n, first + i, i, flags.is_set(i), t, stamp, after);
     }
     after
 }

@@ -3,12 +3,13 @@ ghost use Rattle.std.specs.Prelude.{◌≡◌};
 ghost use Rattle.trace.specs.Put.{Put};
 ghost use Rattle.field.specs.Inspect.{rtt_words, cubic_words, congestion_words, reordering_words, count_words, shared_words};
 
-use crate::words::{Line, put_value};
+use crate::words::put_value;
 use model::{Congestion, Cubic, Reordering, Rtt, Shared};
+use trace::text::Text;
 
 // The round-trip estimates; min and max are unset before a sample.
-pub fn put_rtt(out: &mut Line, tag: &[u8], r: Rtt)
-    ensures { Put 2048 out.old (rtt_words tag.now r) out.new }
+pub fn put_rtt<const N: usize>(out: &mut Text<N>, tag: &[u8], r: Rtt)
+    ensures { Put N out.old (rtt_words tag.now r) out.new }
 {
     let sampled = r.has_first_rtt_sample;
     put_value(out, tag, b"latest", r.latest_rtt.0);
@@ -18,8 +19,8 @@ pub fn put_rtt(out: &mut Line, tag: &[u8], r: Rtt)
     put_value(out, tag, b"max", sampled.then_some(r.max_rtt.0));
 }
 
-pub fn put_cubic(out: &mut Line, tag: &[u8], c: Cubic)
-    ensures { Put 2048 out.old (cubic_words tag.now c) out.new }
+pub fn put_cubic<const N: usize>(out: &mut Text<N>, tag: &[u8], c: Cubic)
+    ensures { Put N out.old (cubic_words tag.now c) out.new }
 {
     put_value(out, tag, b"w_max", c.w_max);
     put_value(out, tag, b"k", c.k);
@@ -28,8 +29,8 @@ pub fn put_cubic(out: &mut Line, tag: &[u8], c: Cubic)
     put_value(out, tag, b"cwnd_inc", c.cwnd_inc);
 }
 
-pub fn put_congestion(out: &mut Line, tag: &[u8], g: Congestion)
-    ensures { Put 2048 out.old (congestion_words tag.now g) out.new }
+pub fn put_congestion<const N: usize>(out: &mut Text<N>, tag: &[u8], g: Congestion)
+    ensures { Put N out.old (congestion_words tag.now g) out.new }
 {
     put_value(out, tag, b"ssthresh", g.ssthresh);
     put_cubic(out, tag, g.cubic);
@@ -43,8 +44,8 @@ pub fn put_congestion(out: &mut Line, tag: &[u8], g: Congestion)
     put_value(out, tag, b"lost_count", g.lost_count);
 }
 
-pub fn put_reordering(out: &mut Line, tag: &[u8], r: Reordering)
-    ensures { Put 2048 out.old (reordering_words tag.now r) out.new }
+pub fn put_reordering<const N: usize>(out: &mut Text<N>, tag: &[u8], r: Reordering)
+    ensures { Put N out.old (reordering_words tag.now r) out.new }
 {
     put_value(out, tag, b"lost_spurious_count", r.lost_spurious_count);
     put_value(out, tag, b"pkt_thresh", r.pkt_thresh);
@@ -52,16 +53,16 @@ pub fn put_reordering(out: &mut Line, tag: &[u8], r: Reordering)
 }
 
 // The PTO count, the run of non-eliciting packets and the bytes that may be sent.
-pub fn put_counts(out: &mut Line, tag: &[u8], count: u64, run: u64, bytes: u64)
-    ensures { Put 2048 out.old (count_words tag.now count run bytes) out.new }
+pub fn put_counts<const N: usize>(out: &mut Text<N>, tag: &[u8], count: u64, run: u64, bytes: u64)
+    ensures { Put N out.old (count_words tag.now count run bytes) out.new }
 {
     put_value(out, tag, b"pto_count", count);
     put_value(out, tag, b"outstanding_non_ack_eliciting", run);
     put_value(out, tag, b"cwnd_available", bytes);
 }
 
-pub fn put_shared(out: &mut Line, tag: &[u8], s: Shared, bytes: u64)
-    ensures { Put 2048 out.old (shared_words tag.now s bytes) out.new }
+pub fn put_shared<const N: usize>(out: &mut Text<N>, tag: &[u8], s: Shared, bytes: u64)
+    ensures { Put N out.old (shared_words tag.now s bytes) out.new }
 {
     put_rtt(out, tag, s.rtt);
     put_congestion(out, tag, s.congestion);

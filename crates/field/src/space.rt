@@ -4,15 +4,16 @@ ghost use Rattle.connection.specs.View.{space_of};
 ghost use Rattle.trace.specs.Put.{Put};
 ghost use Rattle.field.specs.Inspect.{time_words, frame_words, last_words, space_words};
 
-use crate::words::{Line, put_value};
+use crate::words::put_value;
 use connection::SpaceState;
 use estimate::timer::should_elicit_ack;
 use model::Epoch;
 use records::memory::held;
+use trace::text::Text;
 
 // The loss time, the probes and the count of packets in flight.
-fn put_times(out: &mut Line, tag: &[u8], e: Epoch)
-    ensures { Put 2048 out.old (time_words tag.now e) out.new }
+fn put_times<const N: usize>(out: &mut Text<N>, tag: &[u8], e: Epoch)
+    ensures { Put N out.old (time_words tag.now e) out.new }
 {
     put_value(out, tag, b"loss_time", e.loss_time);
     put_value(out, tag, b"loss_probes", e.loss_probes);
@@ -20,8 +21,15 @@ fn put_times(out: &mut Line, tag: &[u8], e: Epoch)
 }
 
 // How many records there are, and how many handles wait in each queue.
-fn put_frames(out: &mut Line, tag: &[u8], sent: u64, acked: u64, ack: u64, pto: u64)
-    ensures { Put 2048 out.old (frame_words tag.now sent acked ack pto) out.new }
+fn put_frames<const N: usize>(
+    out: &mut Text<N>,
+    tag: &[u8],
+    sent: u64,
+    acked: u64,
+    ack: u64,
+    pto: u64,
+)
+    ensures { Put N out.old (frame_words tag.now sent acked ack pto) out.new }
 {
     put_value(out, tag, b"sent_packets", sent);
     put_value(out, tag, b"acked_frames", acked);
@@ -30,8 +38,8 @@ fn put_frames(out: &mut Line, tag: &[u8], sent: u64, acked: u64, ack: u64, pto: 
 }
 
 // The largest acked, the last eliciting send, and whether the next packet is to elicit an ack.
-fn put_last(out: &mut Line, tag: &[u8], e: Epoch, run: u64)
-    ensures { Put 2048 out.old (last_words tag.now e run) out.new }
+fn put_last<const N: usize>(out: &mut Text<N>, tag: &[u8], e: Epoch, run: u64)
+    ensures { Put N out.old (last_words tag.now e run) out.new }
 {
     put_value(out, tag, b"largest_acked", e.largest_acked_packet);
     put_value(
@@ -49,8 +57,8 @@ fn put_last(out: &mut Line, tag: &[u8], e: Epoch, run: u64)
 }
 
 // A space, whatever the words are that its records and queues stand in.
-pub fn put_space(out: &mut Line, tag: &[u8], s: SpaceState, run: u64)
-    ensures { (m : List ℕ) (n : ℕ) → Put 2048 out.old (space_words tag.now (space_of m n s) run) out.new }
+pub fn put_space<const N: usize>(out: &mut Text<N>, tag: &[u8], s: SpaceState, run: u64)
+    ensures { (m : List ℕ) (n : ℕ) → Put N out.old (space_words tag.now (space_of m n s) run) out.new }
 {
     let sent = held(s.len) as u64;
     let acked = held(s.acked) as u64;

@@ -29,8 +29,8 @@ fn hex_digit(n: u64) -> u8
 }
 
 // A number's last hex digits: one, and so many more before it.
-pub fn put_hex(out: &mut Line, n: u64, more: usize)
-    ensures { Put 2048 out.old (hex (suc more) n []) out.new }
+pub fn put_hex<const N: usize>(out: &mut Text<N>, n: u64, more: usize)
+    ensures { Put N out.old (hex (suc more) n []) out.new }
 {
     if more > 0 {
         put_hex(out, n / 16, more - 1);
@@ -46,36 +46,36 @@ pub fn bits_of(x: f64) -> u64
 }
 
 // What stands behind a word's `=`.
-pub trait Value {
+pub trait Value<const N: usize> {
     ghost text: { Self → List ℕ };
 
-    fn put(self, out: &mut Line)
-        ensures { Put 2048 out.old (text self) out.new };
+    fn put(self, out: &mut Text<N>)
+        ensures { Put N out.old (text self) out.new };
 }
 
 // A number in decimal.
-impl Value for u64 {
+impl<const N: usize> Value<N> for u64 {
     ghost text = { decimal };
 
-    fn put(self, out: &mut Line) {
+    fn put(self, out: &mut Text<N>) {
         out.put_decimal(self);
     }
 }
 
 // A moment in nanoseconds, or `-`.
-impl Value for Option<Moment> {
+impl<const N: usize> Value<N> for Option<Moment> {
     ghost text = { timer_text };
 
-    fn put(self, out: &mut Line) {
+    fn put(self, out: &mut Text<N>) {
         out.put_timer(self);
     }
 }
 
 // A number, or `-`.
-impl Value for Option<u64> {
+impl<const N: usize> Value<N> for Option<u64> {
     ghost text = { number_text };
 
-    fn put(self, out: &mut Line) {
+    fn put(self, out: &mut Text<N>) {
         match self {
             None => out.put_byte(b'-'),
             Some(n) => out.put_decimal(n),
@@ -84,28 +84,28 @@ impl Value for Option<u64> {
 }
 
 // 1 or 0.
-impl Value for bool {
+impl<const N: usize> Value<N> for bool {
     ghost text = { bit_text };
 
-    fn put(self, out: &mut Line) {
+    fn put(self, out: &mut Text<N>) {
         out.put_byte(if self { b'1' } else { b'0' });
     }
 }
 
 // A float as the 16 hex digits of its bits.
-impl Value for f64 {
+impl<const N: usize> Value<N> for f64 {
     ghost text = { float_text };
 
-    fn put(self, out: &mut Line) {
+    fn put(self, out: &mut Text<N>) {
         put_hex(out, bits_of(self), 15);
     }
 }
 
 // `9/8` or `5/4`.
-impl Value for TimeThreshold {
+impl<const N: usize> Value<N> for TimeThreshold {
     ghost text = { threshold_text };
 
-    fn put(self, out: &mut Line) {
+    fn put(self, out: &mut Text<N>) {
         match self {
             TimeThreshold::NineEighths => out.put_word(b"9/8"),
             TimeThreshold::FiveFourths => out.put_word(b"5/4"),
@@ -114,8 +114,8 @@ impl Value for TimeThreshold {
 }
 
 // What stands before a word, its name, `=` and its value.
-pub fn put_value<V: Value>(out: &mut Line, tag: &[u8], name: &[u8], value: V)
-    ensures { Put 2048 out.old (named tag.now name.now (V.text value)) out.new }
+pub fn put_value<const N: usize, V: Value<N>>(out: &mut Text<N>, tag: &[u8], name: &[u8], value: V)
+    ensures { Put N out.old (named tag.now name.now (V.text value)) out.new }
 {
     out.put_word(tag);
     out.put_word(name);

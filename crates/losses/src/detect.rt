@@ -9,7 +9,7 @@ ghost use Rattle.losses.specs.Seek.{seek_from};
 use arith::refusal::Refusal;
 use arith::time::{add_up, later};
 use estimate::loss::is_lost;
-use marks::{LostTally, Stop, queued};
+use marks::{Flags, LostTally, Stop, queued};
 use model::{Judge, Sent};
 use records::memory::{CAPACITY, Words, held, record_at};
 
@@ -64,12 +64,12 @@ fn weigh_lost(r: Sent, t: LostTally) -> Result<LostTally, Refusal>
 
 // The record at place i after step 1.
 #[tactic(auto, using(crate::proofs::Turns::read_acked, crate::proofs::Turns::read_other), unfolding(model::specs::Sent::marked))]
-fn acked_at(m: &Words, n: u64, head: usize, flags: &[bool; 256], i: usize) -> Sent
+fn acked_at<F: Flags>(m: &Words, n: u64, head: usize, flags: &F, i: usize) -> Sent
     requires { i < capacity }
-    ensures { result ≡ acked_at m.now n head flags.now i }
+    ensures { result ≡ acked_at m.now n head (F.seen flags.now) i }
 {
     let mut r = record_at(m, n, head % CAPACITY + i);
-    if flags[i] {
+    if flags.is_set(i) {
         r.acked = true;
     }
     r
@@ -111,18 +111,18 @@ fn survive(j: Judge, place: usize, r: Sent, tally: LostTally) -> Result<Stop, Re
 // What a loss detection from place `from` on comes to, where the lost queue holds `queued` handles and the space's in-flight count is `in_flight`.
 // It stops above the largest, or at the first survivor.
 #[tactic(auto, using(crate::proofs::Turns::seek_above, crate::proofs::Turns::seek_passed, crate::proofs::Turns::seek_survived, crate::proofs::Turns::seek_lost, crate::proofs::Turns::seek_past, crate::proofs::Turns::lost_packets))]
-pub fn seek(
+pub fn seek<F: Flags>(
     m: &Words,
     n: u64,
     head: usize,
     len: usize,
-    flags: &[bool; 256],
+    flags: &F,
     from: usize,
     j: Judge,
     queued: u64,
     in_flight: u64,
 ) -> Result<Stop, Refusal>
-    ensures { result ≡ seek_from j (acked_at m.now n head flags.now) (min from (min len capacity)) (min len capacity) queued in_flight }
+    ensures { result ≡ seek_from j (acked_at m.now n head (F.seen flags.now)) (min from (min len capacity)) (min len capacity) queued in_flight }
 {
     let count = held(len);
     let mut tally = fresh(queued, in_flight);

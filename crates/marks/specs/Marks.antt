@@ -1,6 +1,6 @@
 -- The records of a space as an event is about to leave them, told from the words as they are. Definitions only.
 -- Places count from the front: place i is slot head + i. `fs` tells for each place whether the ranges hold its record.
-use Rattle.std.specs.Prelude.{ℕ, zero, suc, ◌+◌, ◌*◌, ◌/◌, Bool, true, false, cond, ◌&&◌, List, [], ◌∷◌, eqb, ltb, get_or, Some}
+use Rattle.std.specs.Prelude.{ℕ, zero, suc, ◌+◌, ◌*◌, ◌/◌, Bool, true, false, cond, ◌&&◌, List, [], ◌∷◌, map, eqb, ltb, get_or, Some}
 use Rattle.arith.specs.declared.time.Moment.{Moment}
 use Rattle.model.specs.Sent.{standing, marked}
 use Rattle.model.specs.declared.Sent.{Sent}
@@ -9,6 +9,10 @@ use Rattle.records.specs.View.{at, record_by, record_at}
 -- whether a range holds the record at place i
 abbrev pub flagged : List Bool → ℕ → Bool
 flagged fs i = get_or fs i false
+
+-- flags that are bytes: 1 alone is one
+abbrev pub of_bytes : List ℕ → List Bool
+of_bytes bs = map (λ b. eqb b 1) bs
 
 -- the mark at place i
 abbrev pub mark_of : List ℕ → ℕ → ℕ → ℕ → ℕ

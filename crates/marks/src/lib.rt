@@ -2,8 +2,8 @@
 // A refusal may arise late in an event, so an event decides first, reading only, and stores when nothing can refuse any more.
 #![tactic(auto)]
 
-ghost use Rattle.std.specs.Prelude.{◌≡◌, ◌≤◌, ℕ, false};
-ghost use Rattle.marks.specs.Marks.{acked_mark, flagged};
+ghost use Rattle.std.specs.Prelude.{◌≡◌, ◌≤◌, ℕ, List, Bool, false};
+ghost use Rattle.marks.specs.Marks.{acked_mark, flagged, of_bytes};
 ghost use Rattle.marks.specs.Survey.{queued_of};
 
 use arith::refusal::Refusal;
@@ -22,6 +22,31 @@ pub fn queued(handle: u64, count: u64) -> Result<u64, Refusal>
         Ok(count + 1)
     } else {
         Err(Refusal::Full)
+    }
+}
+
+// A flag for each place from the front on: bools, or bytes of which 1 alone is a flag.
+pub trait Flags {
+    ghost seen: { Self → List Bool };
+
+    // No flag stands past the last place.
+    fn is_set(&self, place: usize) -> bool
+        ensures { result ≡ flagged (seen self.now) place };
+}
+
+impl Flags for [bool; 256] {
+    ghost seen = { λ flags. flags };
+
+    fn is_set(&self, place: usize) -> bool {
+        place < self.len() && self[place]
+    }
+}
+
+impl Flags for [u8; 256] {
+    ghost seen = { of_bytes };
+
+    fn is_set(&self, place: usize) -> bool {
+        place < self.len() && self[place] == 1
     }
 }
 

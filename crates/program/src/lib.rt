@@ -1,7 +1,7 @@
 // What the programs that replay traces share: their arguments, and a trace that is read whole and printed a text at a time.
 #![tactic(auto)]
 
-ghost use Rattle.std.specs.Prelude.{List, [], ◌∷◌, ℕ, ◌<◌, ◌≤◌, IfOk, OnOk, length};
+ghost use Rattle.std.specs.Prelude.{List, [], ◌∷◌, ℕ, ◌<◌, ◌≤◌, IfSome, IfOk, OnOk, length};
 ghost use Rattle.std.specs.Io.KnownBytes.{Appends};
 ghost use Rattle.model.specs.Trace.{printed, too_long};
 ghost use Rattle.playback.specs.Printed.{Sound};
@@ -57,7 +57,7 @@ fn print_trace<P: Printer, W: Write>(bytes: &[u8], out: &mut W) -> io::Result<()
 }
 
 // All is read before anything is printed, so that no output of a failed read passes for a whole one.
-pub fn print_from<P: Printer, R: Read, W: Write>(
+fn print_from<P: Printer, R: Read, W: Write>(
     reader: &mut R,
     name: &str,
     out: &mut W,
@@ -72,18 +72,24 @@ pub fn print_path<P: Printer>(rt: &(impl Files + Print), path: &str) -> anyhow::
     print_from::<P, _, _>(&mut file, path, &mut io::writer(rt))
 }
 
-// The argument at i, as text. None is longer than a path may be.
-pub fn argument<'a>(rt: &impl Env, i: usize, room: &'a mut [u8]) -> io::Result<&'a str> {
-    let Ok(n) = rt.arg(i, room) else {
-        return Err(io::Error::from(io::ErrorKind::InvalidFilename));
+// The argument at i, as text, if there are so many. One that room can't hold is longer than a path may be.
+pub fn argument<'a>(rt: &impl Env, i: usize, room: &'a mut [u8]) -> Option<io::Result<&'a str>>
+    ensures { IfSome result (λ given. IfOk given (λ path. length path.now ≤ length room.old)) }
+{
+    let n = match rt.arg(i, room) {
+        Ok(n) => n,
+        Err(FillError::NotPresent) => return None,
+        Err(FillError::TooLong) => {
+            return Some(Err(io::Error::from(io::ErrorKind::InvalidFilename)));
+        }
     };
-    match str::from_utf8(&room[..n]) {
+    Some(match str::from_utf8(&room[..n]) {
         Ok(path) => Ok(path),
         Err(_) => Err(io::Error::from(io::ErrorKind::InvalidData)),
-    }
+    })
 }
 
-pub fn is_given(rt: &impl Env, i: usize) -> bool {
+fn is_given(rt: &impl Env, i: usize) -> bool {
     !matches!(rt.arg(i, &mut [0]), Err(FillError::NotPresent))
 }
 
@@ -92,14 +98,14 @@ fn print_asked<P: Printer>(
     rt: &(impl Env + Files + Input + Print + Eprint),
     usage: &str,
 ) -> anyhow::Result<()> {
-    if !is_given(rt, 1) {
+    let mut room = [0; 4096];
+    let Some(path) = argument(rt, 1, &mut room) else {
         return print_from::<P, _, _>(&mut rt.reader(), "standard input", &mut io::writer(rt));
-    }
+    };
     if is_given(rt, 2) {
         return eprint!(rt; "{usage}").context("standard error");
     }
-    let mut room = [0; 4096];
-    let path = argument(rt, 1, &mut room).context("PATH")?;
+    let path = path.context("PATH")?;
     if path == "--help" {
         return print!(rt; "{usage}").context("standard output");
     }

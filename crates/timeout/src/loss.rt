@@ -13,7 +13,6 @@ use arith::time::Moment;
 use commit::{Queues, Touched, commit};
 use connection::parts::{normal, refused, space_at, timed, with_space};
 use connection::{Answer, SpaceState, State};
-use marks::Covered;
 use model::{Congestion, HandshakeStatus, OnLossDetectionTimeoutOutcome};
 use records::memory::{CAPACITY, Words, full};
 use tracker::Losses;
@@ -107,13 +106,10 @@ fn plan_loss(
 }
 
 // No record is flagged: nothing is acked.
-fn no_flags() -> Covered
-    ensures { (i : ℕ) → flagged result.flags i ≡ false }
+fn no_flags() -> [bool; 256]
+    ensures { (i : ℕ) → flagged result i ≡ false }
 {
-    Covered {
-        flags: [false; 256],
-        last: 0,
-    }
+    [false; 256]
 }
 
 // A timeout with a loss time, whose space is n. Refusals 6 and 7. 01 Timer and PTO (000); 000 on_loss_detection_timeout; RFC 9002 section 6.1.2
@@ -128,8 +124,8 @@ pub(crate) fn loss_timeout(
     ensures { Does (timeout_loss time n status (connection_of m.old s)) result.outcome m.old m.new s result.state (state_by s n 0) (loss_words m.old n s) }
 {
     full(*m);
-    let covered = no_flags();
-    match plan_loss(m, n, &covered.flags, s, time, status) {
+    let flags = no_flags();
+    match plan_loss(m, n, &flags, s, time, status) {
         Ok(d) => {
             let l = d.losses;
             let q = normal(space_at(s, n)).space;
@@ -138,7 +134,8 @@ pub(crate) fn loss_timeout(
                 n,
                 q.head,
                 q.len,
-                &covered,
+                &flags,
+                0,
                 Touched {
                     from: 0,
                     stop: l.stop,

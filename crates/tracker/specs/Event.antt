@@ -1,12 +1,10 @@
 -- What the acknowledgement event answers, and what it leaves in the words. Definitions only.
-use Rattle.std.specs.Prelude.{ℕ, ◌+◌, ◌-◌, List, length, drop, Result, Ok, Err}
+use Rattle.std.specs.Prelude.{ℕ, ◌+◌, ◌-◌, List, length, drop}
 use Rattle.model.specs.Connection.{Connection, space_at}
-use Rattle.model.specs.declared.OnAckReceivedOutcome.{OnAckReceivedOutcome}
 use Rattle.marks.specs.Store.{store_marks}
 use Rattle.records.specs.View.{store_handles}
 use Rattle.connection.specs.View.{normal_of, space_state_at}
 use Rattle.connection.specs.declared.State.{State}
-use Rattle.arith.specs.declared.refusal.Refusal.{Refusal}
 
 -- the words after it: the marks of the records that are left, and the new handles behind those that were queued; nothing else is stored
 unfoldable pub ack_words : List ℕ → State → ℕ → Connection → List ℕ

@@ -37,7 +37,8 @@ fn take_ack(
                 n,
                 q.space.head,
                 q.space.len,
-                &covered,
+                &covered.flags,
+                covered.last,
                 Touched {
                     from: p.from,
                     stop: p.stop,

@@ -12,7 +12,7 @@ use connection::{Normal, SpaceState};
 use estimate::loss::loss_delay;
 use losses::detect::seek;
 use losses::drain::drain;
-use marks::Stop;
+use marks::{Flags, Stop};
 use model::{Judge, Reordering, Rtt};
 use records::memory::Words;
 
@@ -24,18 +24,18 @@ pub fn or_zero(n: Option<u64>) -> u64
 }
 
 // Where a detection that stopped leaves the space.
-fn ended(
+fn ended<F: Flags>(
     m: &Words,
     n: u64,
     q: Normal,
-    flags: &[bool; 256],
+    flags: &F,
     time: Moment,
     rtt: Rtt,
     from: usize,
     f: Stop,
 ) -> Losses
     requires { from ≤ q.space.len }
-    ensures { result ≡ ends_of m.now n q.space flags.now time rtt from f }
+    ensures { result ≡ ends_of m.now n q.space (F.seen flags.now) time rtt from f }
 {
     Losses {
         tally: f.tally,
@@ -57,11 +57,11 @@ fn ended(
 
 // Losses among the records from a place on, as step 1 leaves them.
 #[tactic(auto, unfolding(crate::specs::Plan::plan_losses))]
-pub(crate) fn plan_losses(
+pub(crate) fn plan_losses<F: Flags>(
     m: &Words,
     n: u64,
     q: Normal,
-    flags: &[bool; 256],
+    flags: &F,
     time: Moment,
     rtt: Rtt,
     o: Reordering,
@@ -70,7 +70,7 @@ pub(crate) fn plan_losses(
     from: usize,
 ) -> Result<Losses, Refusal>
     requires { from ≤ q.space.len }
-    ensures { result ≡ plan_losses m.now n q.space flags.now time rtt o largest in_flight from }
+    ensures { result ≡ plan_losses m.now n q.space (F.seen flags.now) time rtt o largest in_flight from }
 {
     let delay = loss_delay(rtt, o.time_thresh)?;
     let j = Judge {
@@ -94,18 +94,18 @@ pub(crate) fn plan_losses(
 }
 
 // Losses among all records of a space, whatever its counts.
-pub fn plan_all_losses(
+pub fn plan_all_losses<F: Flags>(
     m: &Words,
     n: u64,
     q: SpaceState,
-    flags: &[bool; 256],
+    flags: &F,
     time: Moment,
     rtt: Rtt,
     o: Reordering,
     largest: Option<u64>,
     in_flight: u64,
 ) -> Result<Losses, Refusal>
-    ensures { result ≡ plan_losses m.now n (normal_of q) flags.now time rtt o largest in_flight 0 }
+    ensures { result ≡ plan_losses m.now n (normal_of q) (F.seen flags.now) time rtt o largest in_flight 0 }
 {
     plan_losses(m, n, normal(q), flags, time, rtt, o, largest, in_flight, 0)
 }

@@ -6,4 +6,4 @@ use Rattle.commit.proofs.Turns.{After}
 use Rattle.commit.proofs.commit.Given as goal
 
 abbrev pub invariant-loop-i : goal.invariant-loop-i
-invariant-loop-i l = (After l.initial.m l.n l.head l.len l.covered.flags l.covered.last l.t.from l.t.stop l.t.keep l.stamp l.fn.q.acked l.fn.q.lost l.i l.m l.after) × ((l.after.acked ≤ capacity + l.i) × (l.after.lost ≤ capacity + l.i))
+invariant-loop-i g l = (After l.initial.m l.n l.head l.len (g.F.Flags.seen l.flags) l.last l.t.from l.t.stop l.t.keep l.stamp l.fn.q.acked l.fn.q.lost l.i l.m l.after) × ((l.after.acked ≤ capacity + l.i) × (l.after.lost ≤ capacity + l.i))

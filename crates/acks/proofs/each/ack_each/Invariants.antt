@@ -7,5 +7,5 @@ use mathlib.Core.Path.{◌≡◌}
 use Rattle.acks.proofs.each.ack_each.Given as goal
 
 abbrev pub invariant-loop-i : goal.invariant-loop-i
-invariant-loop-i l = let e = each l.time l.limited l.min_rtt (flagged l.covered.flags) (held_at l.m l.n l.head) in
-    e l.i (places_of l.len l.covered.last - l.i) l.after ≡ e 0 (places_of l.len l.covered.last) l.initial.after
+invariant-loop-i g l = let e = each l.time l.limited l.min_rtt (flagged (g.F.Flags.seen l.flags)) (held_at l.m l.n l.head) in
+    e l.i (places_of l.len l.last - l.i) l.after ≡ e 0 (places_of l.len l.last) l.initial.after

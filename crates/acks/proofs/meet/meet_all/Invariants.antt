@@ -6,4 +6,4 @@ use Rattle.marks.specs.Marks.{flagged, held_at}
 use Rattle.acks.proofs.meet.meet_all.Given as goal
 
 abbrev pub invariant-loop-i : goal.invariant-loop-i
-invariant-loop-i l = Meeting (flagged l.covered.flags) (held_at l.m l.n l.head) l.largest (places_of l.len l.covered.last) (fresh l.queued l.in_flight) l.i l.t
+invariant-loop-i g l = Meeting (flagged (g.F.Flags.seen l.flags)) (held_at l.m l.n l.head) l.largest (places_of l.len l.last) (fresh l.queued l.in_flight) l.i l.t

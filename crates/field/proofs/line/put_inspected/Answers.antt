@@ -11,7 +11,7 @@ use Rattle.field.proofs.line.put_inspected.Goals as goal
 
 pub returns : goal.returns
 unfolding connection_of cwnd_available_of available_in inspected
-returns c =
+returns g c =
     λ m.
     put_then c.put_fields.ensures (put_then c.put_told.ensures
     (put_then (put_same (ap (λ (n : ℕ). shared_words apart c.args.s.shared n) (c.cwnd_available.ensures m)) c.put_shared.ensures)

@@ -7,4 +7,4 @@ use Rattle.field.proofs.line.put_spaces.Goals as goal
 
 pub returns : goal.returns
 unfolding connection_of spaces_words
-returns c = λ m. put_then (c.put_space.ensures m 0) (put_then (c.put_space-2.ensures m 1) (put_last (c.put_space-3.ensures m 2)))
+returns g c = λ m. put_then (c.put_space.ensures m 0) (put_then (c.put_space-2.ensures m 1) (put_last (c.put_space-3.ensures m 2)))

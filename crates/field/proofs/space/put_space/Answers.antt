@@ -5,7 +5,7 @@ use Rattle.field.proofs.Spaces.{space-words}
 use Rattle.field.proofs.space.put_space.Goals as goal
 
 pub returns : goal.returns
-returns c =
+returns g c =
     λ m n.
     let args = c.args in
     put_same (space-words args.tag.now m n args.s args.run c.held-sent.ensures c.held-acked.ensures c.held-ack.ensures c.held-pto.ensures)

@@ -6,7 +6,7 @@ use Rattle.field.proofs.words.+put_hex.Goals.{then-more-gt0, else-more-gt0}
 use Rattle.field.proofs.words.+put_hex.Goals as goal
 
 pub returns : goal.returns
-returns t c =
+returns g t c =
     elim c.if-more-gt0.branch [
       | then-more-gt0 w ↦ put_same (hex-more c.args.n c.args.more (λ e. omega arith)) (put_then w.put_hex.ensures (rw (w.out-is, c.hex_digit.ensures) at c.put_byte.ensures))
       | else-more-gt0 w ↦ put_same (hex-one c.args.n c.args.more (omega arith)) (rw (w.out-is, c.hex_digit.ensures) at c.put_byte.ensures)

@@ -6,7 +6,7 @@ use Rattle.losses.proofs.Turns.{seek_refused}
 use Rattle.losses.proofs.detect.seek.Goals as goal
 
 pub returns-in_err-tally : goal.returns-in_err-tally
-returns-in_err-tally c =
+returns-in_err-tally g c =
     let refused : c.from_residual.result ≡ Err c.in_err-tally.field-0.0 = search rules in
     refused
     ∙ rw (← c.held-count.ensures)

@@ -8,7 +8,7 @@ use Rattle.losses.specs.Seek.{seek_from}
 use Rattle.losses.proofs.detect.seek.Given as goal
 
 abbrev pub invariant-loop-place : goal.invariant-loop-place
-invariant-loop-place l = let f = acked_at l.m l.n l.head l.flags in
+invariant-loop-place g l = let f = acked_at l.m l.n l.head (g.F.Flags.seen l.flags) in
     record {
       packets : l.tally.packets ≤ l.place;
       sought : seek l.j l.place (ring f l.place (l.count - l.place)) l.tally ≡ seek_from l.j f (min l.from l.count) l.count l.queued l.in_flight;

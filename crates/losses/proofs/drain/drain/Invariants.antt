@@ -6,5 +6,5 @@ use Rattle.losses.specs.Drain.{drained_to}
 use Rattle.losses.proofs.drain.drain.Given as goal
 
 abbrev pub invariant-loop-i : goal.invariant-loop-i
-invariant-loop-i l = let f = settled_at l.m l.n l.head l.flags l.stop l.time in
+invariant-loop-i g l = let f = settled_at l.m l.n l.head (g.F.Flags.seen l.flags) l.stop l.time in
     drained_to l.time l.smoothed f l.i l.count ≡ drained_to l.time l.smoothed f (min l.from l.count) l.count

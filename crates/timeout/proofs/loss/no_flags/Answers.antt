@@ -4,6 +4,3 @@ use Rattle.timeout.proofs.loss.no_flags.Goals as goal
 
 pub returns : goal.returns
 returns c = unflagged
-
-pub invariant_of-result : goal.invariant_of-result
-invariant_of-result c = record { past = λ i le. unflagged i }
