@@ -4,7 +4,6 @@ use Rattle.arith.specs.Whole.{sum_of, times_of}
 use Rattle.arith.specs.declared.time.Moment.{Moment}
 use Rattle.arith.specs.declared.time.Span.{Span}
 use Rattle.arith.specs.declared.refusal.Refusal.{Refusal}
-use Rattle.arith.specs.declared.refusal.Refusal.TheVariants.{TooLarge}
 
 -- so many whole nanoseconds, of length and of the clock. 01 'The stage numbers'
 abbrev pub span : ℕ → Span

@@ -10,7 +10,7 @@ use connection::Answer;
 use model::{OnAckReceivedOutcome, OnLossDetectionTimeoutOutcome};
 
 // What an event of one kind answers, in the words that are the same for all.
-pub(crate) trait Tell: Copy {
+pub trait Tell: Copy {
     ghost tells: { Self → Told };
 
     fn tell(self) -> Told
@@ -52,7 +52,7 @@ impl Tell for u64 {
 }
 
 // An event's own answer, as one that is the same for all.
-pub(crate) fn told<T: Tell>(a: Answer<T>) -> Answer<Told>
+pub fn told<T: Tell>(a: Answer<T>) -> Answer<Told>
     ensures { result ≡ record { outcome = mapped T.tells a.outcome; state = a.state } }
 {
     Answer {

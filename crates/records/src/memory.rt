@@ -97,7 +97,8 @@ fn slot(n: u64, w: Queue, i: usize) -> usize
 pub fn word_at(m: &Words, n: u64, k: usize, word: Word) -> u64
     ensures { result ≡ get_or m.now (at n k (word_place word)) 0 }
 {
-    m[at(n, k, word)]
+    let place = at(n, k, word);
+    m[place]
 }
 
 // When a record with this mark was declared lost.

@@ -3,9 +3,6 @@ use Rattle.std.proofs.Common.{◌<◌, ◌≤◌, length, refl, arith}
 use Rattle.drive.proofs.Sends.{first-turn, next-turn, last_turn}
 use Rattle.drive.proofs.send_all.Goals as goal
 
-pub loop-i-init : goal.loop-i-init
-loop-i-init c = first-turn _ _ _
-
 pub loop-i-preserved : goal.loop-i-preserved
 loop-i-preserved c = next-turn _ _ _ _ _ c.loop-i.invariant (omega arith) _ _ _ refl c.skavvilet_on_packet_sent.ensures
 

@@ -6,10 +6,6 @@ pub returns-in-Sent : goal.returns-in-Sent
 unfolding event_says
 returns-in-Sent c = rw c.in-Sent.is c.play_sent.ensures
 
-pub returns-in-Ack : goal.returns-in-Ack
-unfolding event_says
-returns-in-Ack c = rw c.in-Ack.is c.play_ack.ensures
-
 pub returns-in-Timeout : goal.returns-in-Timeout
 unfolding event_says
 returns-in-Timeout c = rw c.in-Timeout.is c.play_timeout.ensures

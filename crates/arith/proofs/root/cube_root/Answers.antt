@@ -2,7 +2,7 @@
 use Rattle.std.proofs.Common.{ℕ, ◌+◌, ◌/◌, ◌%◌, ◌<◌, ◌≤◌, T, sym, subst, arith}
 use lib.Ieee.{binary64, of_bits, to_bits}
 use Rattle.arith.proofs.root.Units.{shifted}
-use Rattle.arith.proofs.root.Wrap.{Argument, argument, argument-no-nan, written-no-nan, is-largest}
+use Rattle.arith.proofs.root.Wrap.{Argument, argument, written-no-nan, is-largest}
 use Rattle.arith.proofs.Answer.{rooted, zero-answer, root_answer, low-answer, high-answer}
 use Rattle.arith.proofs.root.cube_root.Goals.{Then-x-3}
 use Rattle.arith.proofs.root.cube_root.Goals as goal
@@ -10,10 +10,6 @@ use Rattle.arith.proofs.root.cube_root.Goals as goal
 pub returns-then-x : goal.returns-then-x
 unfolding of_bits
 returns-then-x c = rooted _ _ (subst T (sym c.well_formed.0.1) tt) (zero-answer _ c.if-x.true)
-
-pub float_to_bits-bits : goal.float_to_bits-bits
-unfolding of_bits
-float_to_bits-bits c = argument-no-nan _ (subst T (sym c.if-x-2.true) tt)
 
 -- what the tests and the format say of the argument's pattern
 seen : (c : Then-x-3) → Argument c.args.x (to_bits binary64 c.args.x)

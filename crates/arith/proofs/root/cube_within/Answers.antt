@@ -1,6 +1,6 @@
 -- `arith::root::cube_within` meets its contract. Three products give the cube's limbs, which decide the comparison.
-use Rattle.std.proofs.Common.{◌+◌, arith}
-use Rattle.arith.proofs.root.Limbs.{Limbs, cubed, square-high, product_high, yes-less, no_more, yes-even, no-low, no-mid}
+use Rattle.std.proofs.Common.{◌+◌}
+use Rattle.arith.proofs.root.Limbs.{Limbs, cubed, yes-less, no_more, yes-even, no-low, no-mid}
 use Rattle.arith.proofs.root.cube_within.Goals.{After-struct_known-2-1}
 use Rattle.arith.proofs.root.cube_within.Goals as goal
 
@@ -11,17 +11,6 @@ cube-is d =
       is = cubed d.args.q d.product-square.result.high d.product-square.result.low d.product-bottom.result.high d.product-bottom.result.low d.product-top.result.high d.product-top.result.low d.product-square.ensures.0 d.product-bottom.ensures.0 d.product-top.ensures.0;
       low = d.product-bottom.ensures.1;
     }
-
-pub product-top-requires : goal.product-top-requires
-product-top-requires c = let h = c.requires in (square-high _ _ _ h c.product-square.ensures.0, h)
-
-pub overflow_add-mid : goal.overflow_add-mid
-overflow_add-mid c =
-    omega (arith, c.product-top.ensures.1, product_high _ _ _ _ (let h = c.product-square.ensures.1 in omega arith) c.requires c.product-bottom.ensures.0)
-
-pub overflow_add-whole : goal.overflow_add-whole
-overflow_add-whole c =
-    omega (arith, c.product-top.ensures.1, product_high _ _ _ _ (let h = c.product-square.ensures.1 in omega arith) c.requires c.product-bottom.ensures.0, product_high _ _ _ _ (square-high _ _ _ c.requires c.product-square.ensures.0) c.requires c.product-top.ensures.0)
 
 pub returns-then-whole-a : goal.returns-then-whole-a
 returns-then-whole-a c =

@@ -1,20 +1,10 @@
 -- `arith::round::rounded` meets its contract. The product fits a word where x is a time, and is no smaller than x.
 use Rattle.arith.specs.Round.{nearest}
 use Rattle.arith.proofs.Laws.{nearest-past, nearest-over, nearest-fine}
-use Rattle.std.proofs.Common.{mul-le-mul, arith}
 use Rattle.arith.proofs.round.rounded.Goals as goal
 
 pub returns-then-x-gt-LIMIT : goal.returns-then-x-gt-LIMIT
 returns-then-x-gt-LIMIT c = nearest-past _ _ _ c.requires c.if-x-gt-LIMIT.true
-
-pub overflow_mul-ns : goal.overflow_mul-ns
-overflow_mul-ns c = omega (arith, mul-le-mul c.requires.top c.if-x-gt-LIMIT.false)
-
-pub overflow_mul-ns-2 : goal.overflow_mul-ns-2
-overflow_mul-ns-2 c = omega (arith, mul-le-mul c.requires.top c.if-x-gt-LIMIT.false)
-
-pub overflow_add-ns : goal.overflow_add-ns
-overflow_add-ns c = omega (arith, mul-le-mul c.requires.top c.if-x-gt-LIMIT.false)
 
 pub returns-then-ns-gt-LIMIT : goal.returns-then-ns-gt-LIMIT
 unfolding nearest

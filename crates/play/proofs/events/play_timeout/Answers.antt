@@ -1,5 +1,4 @@
 -- `events::play_timeout` meets its contract: the event's own claim, lifted.
-use Prim.Native.Nat.{ℕ}
 use mathlib.Core.Path.{refl}
 use Rattle.model.specs.Run as run
 use Rattle.trace.specs.Says.{event_says}
