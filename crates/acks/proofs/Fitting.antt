@@ -10,13 +10,13 @@ use Rattle.arith.specs.Whole.{sum_of}
 use Rattle.arith.specs.Refusals.{then}
 use Rattle.marks.specs.Marks.{held_at, is_newly, handles_of}
 use Rattle.marks.specs.Survey.{queued_of, weigh_lost, newly_weighed, bytes_weighed, weigh_standing, weigh_by, weighed, survey}
-use Rattle.marks.proofs.Rings.{held-round}
+use Rattle.marks.proofs.Rings.{held-rounds}
 use Rattle.marks.proofs.Lost.{Queues, queues}
 use Rattle.marks.specs.declared.Tally.{Tally}
 use Rattle.model.specs.Numbers.{capacity, is_unset}
 use Rattle.arith.specs.declared.refusal.Refusal.{Refusal}
 use Rattle.model.specs.declared.Sent.{Sent}
-use Rattle.records.specs.View.{ring, record_at}
+use Rattle.records.specs.View.{ring}
 use Rattle.records.proofs.Rings.{ring-step, ring-end}
 use Rattle.acks.specs.Fitted.{fit_number, fit, fitted, fresh, Room}
 use Rattle.std.specs.Prelude.{Result, Ok, Err, Option, Some, None}
@@ -231,6 +231,7 @@ grows b largest i r t {u} e =
 
 -- the first i places are done
 pub record Meeting (f : ℕ → Bool) (g : ℕ → Sent) (largest stop : ℕ) (t₀ : Tally) (i : ℕ) (t : Tally) : Type 0 where
+  pub within : i ≤ stop
   pub newly : t.newly ≤ i
   pub spurious : t.spurious ≤ i
   pub distance : fit_number t.distance ≡ t.distance
@@ -239,52 +240,69 @@ pub record Meeting (f : ℕ → Bool) (g : ℕ → Sent) (largest stop : ℕ) (t
 pub meeting_none : (f : ℕ → Bool) (g : ℕ → Sent) (largest stop queued in_flight : ℕ) → Meeting f g largest stop (fresh queued in_flight) 0 (fresh queued in_flight)
 meeting_none f g largest stop queued in_flight =
     record {
+      within = omega arith;
       newly = omega arith;
       spurious = omega arith;
       distance = refl;
       same = let e : stop - 0 ≡ stop = omega arith in rw e refl;
     }
 
--- r is the record that was read round the ring
-module _ (m : List ℕ) (n head : ℕ) {f : ℕ → Bool} {largest stop : ℕ} {t₀ : Tally} {i : ℕ} {t : Tally} (k : Meeting f (held_at m n head) largest stop t₀ i t) where
+module _ {f : ℕ → Bool} {g : ℕ → Sent} {largest stop : ℕ} {t₀ : Tally} {i : ℕ} {t : Tally} (m : Meeting f g largest stop t₀ i t) where
   pub meeting_room : i < stop → stop ≤ capacity → Room t
-  meeting_room lt le = record { newly = omega (arith, k.newly); spurious = omega (arith, k.spurious); distance = k.distance }
+  meeting_room lt le = record { newly = omega (arith, m.newly); spurious = omega (arith, m.spurious); distance = m.distance }
 
-  pub meeting_on : i < stop → f i ≡ true → {r : Sent} {u : Tally} → r ≡ record_at m n (head % capacity + i) → Ok u ≡ fitted (weighed true largest i r t) →
-      Meeting f (held_at m n head) largest stop t₀ (i + 1) u
+  pub meeting_on : i < stop → f i ≡ true → {r : Sent} {u : Tally} → r ≡ g i → Ok u ≡ fitted (weighed true largest i r t) → Meeting f g largest stop t₀ (i + 1) u
   meeting_on lt on {r} {u} a b =
-      let e : Ok u ≡ fitted (weighed true largest i (held_at m n head i) t) = b ∙ rw (a, held-round m n head i) refl in
-      let g = grows true largest i (held_at m n head i) t e in
+      let e : Ok u ≡ fitted (weighed true largest i (g i) t) = b ∙ rw a refl in
+      let k = grows true largest i (g i) t e in
       record {
-        newly = omega (arith, k.newly, g.newly);
-        spurious = omega (arith, k.spurious, g.spurious);
-        distance = g.distance;
-        same = survey-on f (held_at m n head) largest i stop t k.same lt (rw on e);
+        within = omega arith;
+        newly = omega (arith, m.newly, k.newly);
+        spurious = omega (arith, m.spurious, k.spurious);
+        distance = k.distance;
+        same = survey-on f g largest i stop t m.same lt (rw on e);
       }
 
-  pub meeting_off : i < stop → f i ≡ false → Meeting f (held_at m n head) largest stop t₀ (i + 1) t
+  pub meeting_off : i < stop → f i ≡ false → Meeting f g largest stop t₀ (i + 1) t
   meeting_off lt off =
       record {
-        newly = omega (arith, k.newly);
-        spurious = omega (arith, k.spurious);
-        distance = k.distance;
-        same = survey-off f (held_at m n head) largest i stop t k.same lt off k.distance;
+        within = omega arith;
+        newly = omega (arith, m.newly);
+        spurious = omega (arith, m.spurious);
+        distance = m.distance;
+        same = survey-off f g largest i stop t m.same lt off m.distance;
       }
 
-  pub meeting_ends : i < stop → f i ≡ true → {r : Sent} {x : Refusal} → r ≡ record_at m n (head % capacity + i) → Err x ≡ fitted (weighed true largest i r t) →
-      Err x ≡ fitted (survey largest 0 (ring f 0 stop) (ring (held_at m n head) 0 stop) t₀)
+  pub meeting_ends : i < stop → f i ≡ true → {r : Sent} {x : Refusal} → r ≡ g i → Err x ≡ fitted (weighed true largest i r t) →
+      Err x ≡ fitted (survey largest 0 (ring f 0 stop) (ring g 0 stop) t₀)
   meeting_ends lt on {r} {x} a b =
-      let e : Err x ≡ fitted (weighed true largest i (held_at m n head i) t) = b ∙ rw (a, held-round m n head i) refl in
-      survey-ends f (held_at m n head) largest i stop t k.same lt (rw on e)
+      let e : Err x ≡ fitted (weighed true largest i (g i) t) = b ∙ rw a refl in
+      survey-ends f g largest i stop t m.same lt (rw on e)
 
-  pub meeting_end : stop ≤ i → Ok t ≡ fitted (survey largest 0 (ring f 0 stop) (ring (held_at m n head) 0 stop) t₀)
-  meeting_end le = survey-end f (held_at m n head) largest i stop t k.same le k.distance
+  pub meeting_end : stop ≤ i → Ok t ≡ fitted (survey largest 0 (ring f 0 stop) (ring g 0 stop) t₀)
+  meeting_end le = survey-end f g largest i stop t m.same le m.distance
+
+-- places taken round, and as many as there are
+pub meeting-round : (f : ℕ → Bool) (m : List ℕ) (n head largest stop s : ℕ) {t u : Tally} → stop ≡ s → t ≡ u →
+    fitted (survey largest 0 (ring f 0 stop) (ring (held_at m n (head % capacity)) 0 stop) t) ≡ fitted (survey largest 0 (ring f 0 s) (ring (held_at m n head) 0 s) u)
+meeting-round f m n head largest stop s a b = rw (a, b, held-rounds m n head 0 s) refl
+
+-- ---- a distance as a word holds it
+
+pub distance-one : (largest number : ℕ) → largest ≤ number → Some 1 ≡ fit_number (Some (largest - number + 1))
+distance-one largest number le = let e : min (largest - number + 1) 18446744073709551615 ≡ 1 = omega arith in rw e
+
+pub distance_most : (largest number : ℕ) → largest - number ≡ 18446744073709551615 → Some (largest - number) ≡ fit_number (Some (largest - number + 1))
+distance_most largest number e = let f : min (largest - number + 1) 18446744073709551615 ≡ largest - number = omega arith in rw f
+
+pub distance_is : (largest number : ℕ) → largest - number < 18446744073709551615 → Some (largest - number + 1) ≡ fit_number (Some (largest - number + 1))
+distance_is largest number lt = let f : min (largest - number + 1) 18446744073709551615 ≡ largest - number + 1 = omega arith in rw f
 
 -- ---- one record
 
 -- what is not a first spurious record leaves the distance
-bytes-fit : (r : Sent) (t : Tally) → fit_number t.distance ≡ t.distance → bytes_weighed r t ≡ fitted (bytes_weighed r t)
-bytes-fit r t short = go r.in_flight (sum_of t.acked_bytes r.size)
+pub bytes_fit : (r : Sent) (t : Tally) → fit_number t.distance ≡ t.distance → bytes_weighed r t ≡ fitted (bytes_weighed r t)
+bytes_fit r t short = go r.in_flight (sum_of t.acked_bytes r.size)
   where
     go : (b : Bool) (s : Result ℕ Refusal) →
         cond b (then s λ n. Ok (record t { acked_bytes = n; in_flight = t.in_flight - 1 })) (Ok t)
@@ -293,11 +311,11 @@ bytes-fit r t short = go r.in_flight (sum_of t.acked_bytes r.size)
     go true (Err why) = refl
     go false s = rw short refl
 
-standing-fit : (i : ℕ) (r : Sent) (t : Tally) → fit_number t.distance ≡ t.distance → weigh_standing i r t ≡ fitted (weigh_standing i r t)
+pub standing-fit : (i : ℕ) (r : Sent) (t : Tally) → fit_number t.distance ≡ t.distance → weigh_standing i r t ≡ fitted (weigh_standing i r t)
 standing-fit i r t short = go (queued_of r.handle t.queued)
   where
     go : (x : Result ℕ Refusal) → then x (λ q. bytes_weighed r (newly_weighed i r q t)) ≡ fitted (then x (λ q. bytes_weighed r (newly_weighed i r q t)))
-    go (Ok q) = bytes-fit r (newly_weighed i r q t) short
+    go (Ok q) = bytes_fit r (newly_weighed i r q t) short
     go (Err why) = refl
 
 pub meets_standing : (largest i : ℕ) (r : Sent) (t : Tally) → fit_number t.distance ≡ t.distance → r.acked ≡ false → r.time_lost ≡ None →

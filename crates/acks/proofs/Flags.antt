@@ -114,6 +114,11 @@ pub record Walking (m : List ℕ) (n first count end place : ℕ) (fs : List Boo
   pub same : count_below end (left m n first count place) ≡ i - place + count_below end (left m n first count i)
   pub flags : (bs : List Bool) → Flags fs bs → length bs ≡ place → Flags gs (bs ++ replicate (i - place) true)
 
+pub walking-none : (m : List ℕ) (n first count end place : ℕ) (fs : List Bool) → place ≤ count → Walking m n first count end place fs place fs
+walking-none m n first count end place fs le =
+    let e : place - place ≡ 0 = omega arith in
+    record { from = omega arith; within = le; same = rw e (omega arith); flags = λ bs f len. rw (e, append-nil bs) f }
+
 module _ {m : List ℕ} {n first count end place : ℕ} {fs : List Bool} {i : ℕ} {gs : List Bool} (w : Walking m n first count end place fs i gs) where
   pub walking_on : i < count → count ≤ capacity → get_or m (at n (first + i) 0) 0 < end → Walking m n first count end place fs (i + 1) (set gs i true)
   walking_on lt le below =

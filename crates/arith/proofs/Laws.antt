@@ -118,17 +118,17 @@ span-in : (o : Result ℕ Refusal) {s : Span} → as_span o ≡ Ok s → o ≡ O
 span-in (Ok n) {s} e = let z : span n ≡ s = cc in ap (λ (t : Span). Ok t.0) z
 span-in (Err why) {s} e = cc
 
-span-out : (o : Result ℕ Refusal) → as_span o ≡ Err TooLarge → o ≡ Err TooLarge
-span-out (Ok n) e = cc
-span-out (Err why) e = cc
+span-out : (o : Result ℕ Refusal) {why : Refusal} → as_span o ≡ Err why → o ≡ Err why
+span-out (Ok n) {why} e = cc
+span-out (Err r) {why} e = cc
 
 moment-in : (o : Result ℕ Refusal) {m : Moment} → as_moment o ≡ Ok m → o ≡ Ok m.0
 moment-in (Ok n) {m} e = let z : moment n ≡ m = cc in ap (λ (t : Moment). Ok t.0) z
 moment-in (Err why) {m} e = cc
 
-moment-out : (o : Result ℕ Refusal) → as_moment o ≡ Err TooLarge → o ≡ Err TooLarge
-moment-out (Ok n) e = cc
-moment-out (Err why) e = cc
+moment-out : (o : Result ℕ Refusal) {why : Refusal} → as_moment o ≡ Err why → o ≡ Err why
+moment-out (Ok n) {why} e = cc
+moment-out (Err r) {why} e = cc
 
 pub spans-fine : (a b : Span) → a.0 + b.0 ≤ limit → span_sum_of a b ≡ Ok (span (a.0 + b.0))
 unfolding span_sum_of
@@ -146,6 +146,10 @@ pub spans-large : (a b : Span) → span_sum_of a b ≡ Err TooLarge → limit < 
 unfolding span_sum_of
 spans-large a b e = sum-large a.0 b.0 (span-out (sum_of a.0 b.0) e)
 
+pub spans-only : (a b : Span) {why : Refusal} → span_sum_of a b ≡ Err why → why ≡ TooLarge
+unfolding span_sum_of
+spans-only a b e = sum-only a.0 b.0 (span-out (sum_of a.0 b.0) e)
+
 pub scaled-fine : (k : ℕ) (s : Span) → k * s.0 ≤ limit → scaled_of k s ≡ Ok (span (k * s.0))
 unfolding scaled_of
 scaled-fine k s h = ap as_span (times-fine k s.0 h)
@@ -162,6 +166,10 @@ pub scaled-large : (k : ℕ) (s : Span) → scaled_of k s ≡ Err TooLarge → l
 unfolding scaled_of
 scaled-large k s e = times-large k s.0 (span-out (times_of k s.0) e)
 
+pub scaled-only : (k : ℕ) (s : Span) {why : Refusal} → scaled_of k s ≡ Err why → why ≡ TooLarge
+unfolding scaled_of
+scaled-only k s e = times-only k s.0 (span-out (times_of k s.0) e)
+
 pub later-fine : (m : Moment) (s : Span) → m.0 + s.0 ≤ limit → later_of m s ≡ Ok (moment (m.0 + s.0))
 unfolding later_of
 later-fine m s h = ap as_moment (sum-fine m.0 s.0 h)
@@ -177,6 +185,10 @@ later-is m s e = sum_is m.0 s.0 (moment-in (sum_of m.0 s.0) e)
 pub later-large : (m : Moment) (s : Span) → later_of m s ≡ Err TooLarge → limit < m.0 + s.0
 unfolding later_of
 later-large m s e = sum-large m.0 s.0 (moment-out (sum_of m.0 s.0) e)
+
+pub later-only : (m : Moment) (s : Span) {why : Refusal} → later_of m s ≡ Err why → why ≡ TooLarge
+unfolding later_of
+later-only m s e = sum-only m.0 s.0 (moment-out (sum_of m.0 s.0) e)
 
 pub none-since : (m earlier : ℕ) → m < earlier → span 0 ≡ span (m - earlier)
 none-since m earlier h = ap span (nothing m earlier h)

@@ -21,7 +21,7 @@ use Rattle.records.proofs.Rings.{apart, ring-ext, length-ring}
 use Rattle.marks.specs.Marks.{flagged, acked_mark, lost_mark, mark_of, mark_acked, mark_settled, held_at, acked_at, settled_at, newly_of, standing_of, handles_of}
 use Rattle.marks.specs.Store.{mark_by, store_marks}
 use Rattle.records.specs.View.{store_handles}
-use Rattle.commit.specs.Commit.{newly_handles, gone_handles, settled_marks, committed, Committed}
+use Rattle.commit.specs.Commit.{newly_handles, gone_handles, settled_marks, committed, queues_after, Committed}
 use Rattle.commit.specs.declared.Queues.{Queues}
 use Rattle.commit.proofs.Storing.{mark-record, marks-other, length-marks}
 use Rattle.commit.proofs.Turns.{flag-past}
@@ -112,6 +112,11 @@ module _ (m : List ℕ) (n head k : ℕ) (fs : List Bool) (from stop keep : ℕ)
 
   abbrev marked : List ℕ
   marked = store_handles marks n 0 acked newly
+
+  pub committed-length : length after ≡ length m
+  unfolding committed
+  committed-length =
+      length-handles marked n 1 lost gone ∙ length-handles marks n 0 acked newly ∙ length-marks m n (head + keep) (ring (settled_at m n head fs stop time) keep (k - keep))
 
   -- the records from place keep on, as they are to be
   pub committed-records : length m ≡ all_words → k ≤ capacity → records_of after n (head + keep) (k - keep) ≡ ring (settled_at m n head fs stop time) keep (k - keep)
@@ -207,3 +212,16 @@ module _ (m : List ℕ) (n head len : ℕ) (fs : List Bool) (last from stop keep
         ∙ ap (λ (l : List ℕ). store_handles (store_handles l n 0 acked (newly_handles m n head gs k)) n 1 lost (gone_handles m n head gs from stop)) marks-same
         ∙ ap (λ (l : List ℕ). store_handles (store_handles (settled_marks m n head k fs stop keep time) n 0 acked l) n 1 lost (gone_handles m n head gs from stop)) newly-same
         ∙ ap (λ (l : List ℕ). store_handles (store_handles (settled_marks m n head k fs stop keep time) n 0 acked (newly_handles m n head fs k)) n 1 lost l) gone_same
+
+    pub commit-queues : q ≡ queues_after m n head (min len capacity) fs from stop acked lost
+    unfolding queues_after
+    commit-queues =
+        let a : min stop k ≡ stop = omega arith in
+        let c : min acked capacity ≡ acked = omega arith in
+        let d : min lost capacity ≡ lost = omega arith in
+        done.queues
+        ∙ ap (λ (x : ℕ). queues_after m n head k gs from x (min acked capacity) (min lost capacity)) a
+        ∙ ap (λ (x : ℕ). queues_after m n head k gs from stop x (min lost capacity)) c
+        ∙ ap (λ (x : ℕ). queues_after m n head k gs from stop acked x) d
+        ∙ ap (λ (l : List ℕ). record { acked = acked + length l; lost = lost + length (gone_handles m n head gs from stop) }) newly-same
+        ∙ ap (λ (l : List ℕ). record { acked = acked + length (newly_handles m n head fs k); lost = lost + length l }) gone_same

@@ -6,10 +6,10 @@ ghost use Rattle.model.specs.Connection.{outstanding};
 ghost use Rattle.model.specs.Events.{shared_timeout, on_space_discarded};
 ghost use Rattle.records.specs.View.{records_of};
 ghost use Rattle.connection.specs.View.{count, connection_of, space_state_at, with_space_state, state_by, Does};
-ghost use Rattle.connection.specs.Steps.{empty_space, discard_by};
-ghost use Rattle.connection.specs.Answers.{outcome_says};
+ghost use Rattle.connection.specs.Steps.{empty_space, discard_by, timed_state};
+ghost use Rattle.connection.specs.Answers.{outcome_says, settled_by};
 
-use crate::parts::{in_time, settled, space_at, timed, with_space};
+use crate::parts::{in_time, refused, space_at, timer, with_space, with_timer};
 use crate::{Answer, SpaceState, State};
 use arith::refusal::Refusal;
 use arith::time::Moment;
@@ -71,25 +71,35 @@ fn bytes_out(m: &Words, s: State, n: u64) -> Result<u64, Refusal>
     outstanding_bytes(m, n, p.head, p.len)
 }
 
-// What a discard comes to. Refusals 1, 2 and 7
+// The answer of a discard that leaves such a state, its timer set anew; or the state before, where that refuses.
+#[tactic(auto, unfolding(crate::specs::Steps::timed_state))]
+fn armed(s: State, after: State, time: Moment, status: HandshakeStatus) -> Answer<()>
+    ensures { result ≡ settled_by s (timed_state time status after) }
+{
+    match timer(after, time, status) {
+        Ok(t) => Answer {
+            outcome: Ok(()),
+            state: with_timer(after, t),
+        },
+        Err(why) => refused(s, why),
+    }
+}
+
+// What a discard comes to. What turns it down is answered at once: a result for all of it would have its room cleared before the first test. Refusals 1, 2 and 7
 #[tactic(auto, unfolding(crate::specs::Steps::discard_by, crate::specs::Steps::discard_state))]
-fn discard(
-    m: &Words,
-    s: State,
-    time: Moment,
-    n: u64,
-    status: HandshakeStatus,
-) -> Result<State, Refusal>
-    ensures { result ≡ discard_by time n status (within (outstanding (records_of m.now n ((space_state_at n s).head % capacity) (count (space_state_at n s).len)))) s }
+fn discard(m: &Words, s: State, time: Moment, n: u64, status: HandshakeStatus) -> Answer<()>
+    ensures { result ≡ settled_by s (discard_by time n status (within (outstanding (records_of m.now n ((space_state_at n s).head % capacity) (count (space_state_at n s).len)))) s) }
 {
     if !in_time(s, time) {
-        return Err(Refusal::Clock);
+        return refused(s, Refusal::Clock);
     }
     if 3 <= n {
-        return Err(Refusal::Domain);
+        return refused(s, Refusal::Domain);
     }
-    let bytes = bytes_out(m, s, n)?;
-    timed(discarded(s, time, n, bytes), time, status)
+    match bytes_out(m, s, n) {
+        Ok(bytes) => armed(s, discarded(s, time, n, bytes), time, status),
+        Err(why) => refused(s, why),
+    }
 }
 
 // Space n's records and queues are gone. Refusals 1, 2 and 7. 01 Timer and PTO (000); 000 on_pkt_num_space_discarded
@@ -102,5 +112,5 @@ pub fn on_pkt_num_space_discarded(
 ) -> Answer<()>
     ensures { Does (on_space_discarded time n status (connection_of m.now s)) (outcome_says result.outcome) m.now m.now s result.state (state_by s n 0) (λ _. m.now) }
 {
-    settled(s, discard(m, s, time, n, status))
+    discard(m, s, time, n, status)
 }

@@ -1,9 +1,10 @@
 // The parts of a state: its spaces, and what the timer goes by.
 ghost use Rattle.std.specs.Prelude.{◌≡◌, ◌-◌};
 ghost use Rattle.model.specs.Numbers.{on_clock};
+ghost use Rattle.model.specs.Timer.{timer_of};
 ghost use Rattle.connection.specs.View.{normal_of, space_state_at, with_space_state};
 ghost use Rattle.connection.specs.Steps.{probed_space, facts_state, armed, timed_state};
-ghost use Rattle.connection.specs.Answers.{refused_by, settled_by};
+ghost use Rattle.connection.specs.Answers.{refused_by};
 
 use crate::{Answer, Normal, SpaceState, State};
 use arith::refusal::Refusal;
@@ -47,22 +48,24 @@ pub fn space_at(s: State, n: u64) -> SpaceState
 pub fn with_space(s: State, n: u64, p: SpaceState, shared: Shared) -> State
     ensures { result ≡ with_space_state n p shared s }
 {
-    match n {
-        0 => State {
+    if n == 0 {
+        return State {
             initial: p,
             shared,
             ..s
-        },
-        1 => State {
+        };
+    }
+    if n == 1 {
+        return State {
             handshake: p,
             shared,
             ..s
-        },
-        _ => State {
-            application: p,
-            shared,
-            ..s
-        },
+        };
+    }
+    State {
+        application: p,
+        shared,
+        ..s
     }
 }
 
@@ -100,7 +103,7 @@ pub fn facts(s: State, now: Moment, status: HandshakeStatus) -> TimerFacts
 
 // The state with its timer at t.
 #[tactic(auto, unfolding(crate::specs::Steps::armed))]
-fn with_timer(s: State, t: Option<Moment>) -> State
+pub(crate) fn with_timer(s: State, t: Option<Moment>) -> State
     ensures { result ≡ armed t s }
 {
     State {
@@ -110,6 +113,18 @@ fn with_timer(s: State, t: Option<Moment>) -> State
         },
         ..s
     }
+}
+
+// A state's timer, set anew. Its answer holds no state: room for one would be cleared before each event that asks. 000 set_loss_detection_timer
+#[inline(never)]
+pub(crate) fn timer(
+    s: State,
+    now: Moment,
+    status: HandshakeStatus,
+) -> Result<Option<Moment>, Refusal>
+    ensures { result ≡ timer_of (facts_state now status s) }
+{
+    set_loss_detection_timer(facts(s, now, status))
 }
 
 // The state with its timer set anew. 01 Timer and PTO (000); 000 set_loss_detection_timer
@@ -128,19 +143,6 @@ pub fn refused<T>(s: State, k: Refusal) -> Answer<T>
     Answer {
         outcome: Err(k),
         state: s,
-    }
-}
-
-// The answer of an event that decides over the state alone: the state that it comes to, or the one before.
-pub fn settled(s: State, decided: Result<State, Refusal>) -> Answer<()>
-    ensures { result ≡ settled_by s decided }
-{
-    match decided {
-        Ok(t) => Answer {
-            outcome: Ok(()),
-            state: t,
-        },
-        Err(k) => refused(s, k),
     }
 }
 

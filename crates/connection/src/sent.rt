@@ -7,7 +7,7 @@ ghost use Rattle.connection.specs.View.{count, connection_of, normal_of, space_s
 ghost use Rattle.connection.specs.Steps.{sent_space, run_of, sent_both, send_state};
 ghost use Rattle.connection.specs.Answers.{outcome_says, sent_words};
 
-use crate::parts::{in_time, normal, refused, space_at, timed, with_space};
+use crate::parts::{in_time, normal, refused, space_at, timer, with_space, with_timer};
 use crate::{Answer, Normal, SpaceState, State};
 use arith::refusal::Refusal;
 use arith::time::{Moment, add_up};
@@ -83,7 +83,8 @@ fn shared_sent(s: Shared, time: Moment, run: u64, bytes: u64) -> Shared
     }
 }
 
-// The state with the packet counted, and with its timer as it was.
+// The state with the packet counted, and with its timer as it was. Out of line, it would hand the whole state through memory once more.
+#[inline(always)]
 #[tactic(auto, unfolding(crate::specs::View::with_space_state))]
 fn counted(s: State, time: Moment, n: u64, p: Packet, run: u64, in_flight: u64, bytes: u64) -> State
     ensures { result ≡ with_space_state n (sent_space time p in_flight (normal_of (space_state_at n s))) (shared_sent time run bytes s.shared) s }
@@ -129,7 +130,9 @@ fn send_both(
     }
     let in_flight = in_flight_after(s, n)?;
     let bytes = bytes_after(s, p)?;
-    timed(counted(s, time, n, p, run, in_flight, bytes), time, status)
+    let after = counted(s, time, n, p, run, in_flight, bytes);
+    let t = timer(after, time, status)?;
+    Ok(with_timer(after, t))
 }
 
 // Whether the packet's number is above the last sent in space n.

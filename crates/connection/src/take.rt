@@ -40,7 +40,7 @@ pub fn next_acked_frame(m: &Words, s: State, n: u64) -> Answer<u64>
         return refused(s, Refusal::Domain);
     }
     let p = normal(space_at(s, n)).space;
-    let handle = newest_handle(m, n, Queue::AckedFrames, p.acked);
+    let handle = newest_handle(m, n, u64::from(Queue::AckedFrames), p.acked);
     Answer {
         outcome: Ok(handle),
         state: with_counts(s, n, p, p.acked.saturating_sub(1), p.lost_ack, p.lost_pto),
@@ -57,13 +57,13 @@ pub fn next_lost_frame(m: &Words, s: State, n: u64) -> Answer<u64>
     }
     let p = normal(space_at(s, n)).space;
     if p.lost_ack == 0 {
-        let handle = newest_handle(m, n, Queue::LostFramesPto, p.lost_pto);
+        let handle = newest_handle(m, n, u64::from(Queue::LostFramesPto), p.lost_pto);
         return Answer {
             outcome: Ok(handle),
             state: with_counts(s, n, p, p.acked, p.lost_ack, p.lost_pto.saturating_sub(1)),
         };
     }
-    let handle = newest_handle(m, n, Queue::LostFramesAck, p.lost_ack);
+    let handle = newest_handle(m, n, u64::from(Queue::LostFramesAck), p.lost_ack);
     Answer {
         outcome: Ok(handle),
         state: with_counts(s, n, p, p.acked, p.lost_ack.saturating_sub(1), p.lost_pto),

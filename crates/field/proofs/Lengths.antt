@@ -4,7 +4,7 @@ use mathlib.Core.Bool.{Bool, true, false}
 use mathlib.Core.List.{List, [], ◌∷◌}
 use Prim.Native.Nat.{ℕ, ◌+◌, ◌*◌, ◌≤◌, ◌<◌}
 use native.Mathlib.Omega.{arith}
-use lib.ListN.{length, length-append}
+use lib.ListN.{length, take, replicate, length-append}
 use lib.Ieee.{Float, binary64, to_bits}
 use Rattle.arith.specs.declared.round.TimeThreshold.{TimeThreshold}
 use Rattle.arith.specs.declared.round.TimeThreshold.TheVariants.{NineEighths, FiveFourths}
@@ -21,10 +21,12 @@ use Rattle.model.specs.declared.Rtt.{Rtt}
 use Rattle.model.specs.declared.Shared.{Shared}
 use Rattle.connection.specs.View.{answer_of}
 use Rattle.trace.specs.Put.{Put}
+use Rattle.trace.specs.Behind.{Behind}
+use Rattle.trace.specs.Padded.{padded}
 use Rattle.trace.proofs.Digits.{decimal-length}
 use Rattle.std.specs.Bool.{then_some}
-use Rattle.trace.proofs.Puts.{put_all}
-use Rattle.trace.proofs.Lines.{timer-length, shown-length}
+use Rattle.trace.proofs.Behinds.{behind_all, behind_put}
+use Rattle.trace.proofs.Lines.{timer-length, shown-length, put-padded}
 use Rattle.field.specs.Words.{apart, in_space, number_text, bit_text, threshold_text, float_text}
 use Rattle.field.specs.Inspect.{ack_words, timeout_words, told_words, rtt_words, cubic_words, congestion_words, reordering_words, count_words, shared_words, time_words, frame_words, last_words, space_words, spaces_words, available_in, fields_text, inspected}
 use Rattle.field.proofs.Floats.{hex-length}
@@ -188,6 +190,16 @@ unfolding fields_text line_of
 fields-line kind (Ok s) c = refl
 fields-line kind (Err k) c = refl
 
+-- a buffer of zeros holds the whole line, and zeros behind it
+pub inspected-page : {z out : List ℕ} {next : ℕ} (kind : ℕ) (r : Result Answer Refusal) (c : Connection) → kind < 256 → z ≡ replicate 2048 0 →
+    Put z 0 (inspected kind r c) out next → (out ≡ padded 2048 (inspected kind r c)) × (next ≡ length (inspected kind r c))
+inspected-page kind r c lt e p = put-padded 2048 (inspected kind r c) e p (inspected-length kind r c lt)
+
 -- an empty text holds the whole line
-pub inspected-page : {out : List ℕ} (kind : ℕ) (r : Result Answer Refusal) (c : Connection) → kind < 256 → Put 2048 [] (inspected kind r c) out → out ≡ inspected kind r c
-inspected-page kind r c lt p = let h = inspected-length kind r c lt in put_all p (omega arith)
+pub inspected-text : {out : List ℕ} (kind : ℕ) (r : Result Answer Refusal) (c : Connection) → kind < 256 → Behind 2048 [] (inspected kind r c) out → out ≡ inspected kind r c
+inspected-text kind r c lt p = let h = inspected-length kind r c lt in behind_all p (omega arith)
+
+-- and so do the first bytes of any buffer that long
+pub inspected-first : {z out : List ℕ} {next : ℕ} (kind : ℕ) (r : Result Answer Refusal) (c : Connection) → kind < 256 → length z ≡ 2048 →
+    Put z 0 (inspected kind r c) out next → take next out ≡ inspected kind r c
+inspected-first kind r c lt size p = inspected-text kind r c lt (behind_put (omega arith) p size refl)

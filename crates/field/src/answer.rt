@@ -7,33 +7,32 @@ use crate::words::put_value;
 use arith::refusal::Refusal;
 use model::{OnAckReceivedOutcome, OnLossDetectionTimeoutOutcome};
 use play::Told;
-use trace::text::Text;
 
-fn put_ack<const N: usize>(out: &mut Text<N>, tag: &[u8], o: OnAckReceivedOutcome)
-    ensures { Put N out.old (ack_words tag.now o) out.new }
+fn put_ack(out: &mut [u8], at: usize, tag: &[u8], o: OnAckReceivedOutcome) -> usize
+    ensures { Put out.old at (ack_words tag.now o) out.new result }
 {
-    put_value(out, tag, b"lost_packets", o.lost_packets);
-    put_value(out, tag, b"lost_bytes", o.lost_bytes);
-    put_value(out, tag, b"acked_bytes", o.acked_bytes);
-    put_value(out, tag, b"spurious", o.spurious_losses);
+    let at = put_value(out, at, tag, b"lost_packets", o.lost_packets);
+    let at = put_value(out, at, tag, b"lost_bytes", o.lost_bytes);
+    let at = put_value(out, at, tag, b"acked_bytes", o.acked_bytes);
+    put_value(out, at, tag, b"spurious", o.spurious_losses)
 }
 
-fn put_timeout<const N: usize>(out: &mut Text<N>, tag: &[u8], o: OnLossDetectionTimeoutOutcome)
-    ensures { Put N out.old (timeout_words tag.now o) out.new }
+fn put_timeout(out: &mut [u8], at: usize, tag: &[u8], o: OnLossDetectionTimeoutOutcome) -> usize
+    ensures { Put out.old at (timeout_words tag.now o) out.new result }
 {
-    put_value(out, tag, b"lost_packets", o.lost_packets);
-    put_value(out, tag, b"lost_bytes", o.lost_bytes);
+    let at = put_value(out, at, tag, b"lost_packets", o.lost_packets);
+    put_value(out, at, tag, b"lost_bytes", o.lost_bytes)
 }
 
 // What an accepted ack, timeout or take answered.
 #[tactic(auto, using(trace::proofs::Puts::put_none), unfolding(crate::specs::Inspect::told_words))]
-pub fn put_told<const N: usize>(out: &mut Text<N>, tag: &[u8], answered: Result<Told, Refusal>)
-    ensures { Put N out.old (told_words tag.now (answered_says answered)) out.new }
+pub fn put_told(out: &mut [u8], at: usize, tag: &[u8], answered: Result<Told, Refusal>) -> usize
+    ensures { Put out.old at (told_words tag.now (answered_says answered)) out.new result }
 {
     match answered {
-        Ok(Told::Ack(o)) => put_ack(out, tag, o),
-        Ok(Told::Timeout(o)) => put_timeout(out, tag, o),
-        Ok(Told::Handle(handle)) => put_value(out, tag, b"handle", handle),
-        Ok(Told::Done) | Err(_) => {}
+        Ok(Told::Ack(o)) => put_ack(out, at, tag, o),
+        Ok(Told::Timeout(o)) => put_timeout(out, at, tag, o),
+        Ok(Told::Handle(handle)) => put_value(out, at, tag, b"handle", handle),
+        Ok(Told::Done) | Err(_) => at.min(out.len()),
     }
 }

@@ -5,73 +5,74 @@ ghost use Rattle.field.specs.Inspect.{rtt_words, cubic_words, congestion_words, 
 
 use crate::words::put_value;
 use model::{Congestion, Cubic, Reordering, Rtt, Shared};
-use trace::text::Text;
 
 // The round-trip estimates; min and max are unset before a sample.
-pub fn put_rtt<const N: usize>(out: &mut Text<N>, tag: &[u8], r: Rtt)
-    ensures { Put N out.old (rtt_words tag.now r) out.new }
+pub fn put_rtt(out: &mut [u8], at: usize, tag: &[u8], r: Rtt) -> usize
+    ensures { Put out.old at (rtt_words tag.now r) out.new result }
 {
     let sampled = r.has_first_rtt_sample;
-    put_value(out, tag, b"latest", r.latest_rtt.0);
-    put_value(out, tag, b"smoothed", r.smoothed_rtt.0);
-    put_value(out, tag, b"rttvar", r.rttvar.0);
-    put_value(out, tag, b"min", sampled.then_some(r.min_rtt.0));
-    put_value(out, tag, b"max", sampled.then_some(r.max_rtt.0));
+    let at = put_value(out, at, tag, b"latest", r.latest_rtt.0);
+    let at = put_value(out, at, tag, b"smoothed", r.smoothed_rtt.0);
+    let at = put_value(out, at, tag, b"rttvar", r.rttvar.0);
+    let at = put_value(out, at, tag, b"min", sampled.then_some(r.min_rtt.0));
+    put_value(out, at, tag, b"max", sampled.then_some(r.max_rtt.0))
 }
 
-pub fn put_cubic<const N: usize>(out: &mut Text<N>, tag: &[u8], c: Cubic)
-    ensures { Put N out.old (cubic_words tag.now c) out.new }
+pub fn put_cubic(out: &mut [u8], at: usize, tag: &[u8], c: Cubic) -> usize
+    ensures { Put out.old at (cubic_words tag.now c) out.new result }
 {
-    put_value(out, tag, b"w_max", c.w_max);
-    put_value(out, tag, b"k", c.k);
-    put_value(out, tag, b"w_est", c.w_est);
-    put_value(out, tag, b"alpha", c.alpha_aimd);
-    put_value(out, tag, b"cwnd_inc", c.cwnd_inc);
+    let at = put_value(out, at, tag, b"w_max", c.w_max);
+    let at = put_value(out, at, tag, b"k", c.k);
+    let at = put_value(out, at, tag, b"w_est", c.w_est);
+    let at = put_value(out, at, tag, b"alpha", c.alpha_aimd);
+    put_value(out, at, tag, b"cwnd_inc", c.cwnd_inc)
 }
 
-pub fn put_congestion<const N: usize>(out: &mut Text<N>, tag: &[u8], g: Congestion)
-    ensures { Put N out.old (congestion_words tag.now g) out.new }
+pub fn put_congestion(out: &mut [u8], at: usize, tag: &[u8], g: Congestion) -> usize
+    ensures { Put out.old at (congestion_words tag.now g) out.new result }
 {
-    put_value(out, tag, b"ssthresh", g.ssthresh);
-    put_cubic(out, tag, g.cubic);
-    put_value(out, tag, b"bytes_acked_sl", g.bytes_acked_sl);
-    put_value(
+    let at = put_value(out, at, tag, b"ssthresh", g.ssthresh);
+    let at = put_cubic(out, at, tag, g.cubic);
+    let at = put_value(out, at, tag, b"bytes_acked_sl", g.bytes_acked_sl);
+    let at = put_value(
         out,
+        at,
         tag,
         b"recovery_start",
         g.congestion_recovery_start_time,
     );
-    put_value(out, tag, b"lost_count", g.lost_count);
+    put_value(out, at, tag, b"lost_count", g.lost_count)
 }
 
-pub fn put_reordering<const N: usize>(out: &mut Text<N>, tag: &[u8], r: Reordering)
-    ensures { Put N out.old (reordering_words tag.now r) out.new }
+pub fn put_reordering(out: &mut [u8], at: usize, tag: &[u8], r: Reordering) -> usize
+    ensures { Put out.old at (reordering_words tag.now r) out.new result }
 {
-    put_value(out, tag, b"lost_spurious_count", r.lost_spurious_count);
-    put_value(out, tag, b"pkt_thresh", r.pkt_thresh);
-    put_value(out, tag, b"time_thresh", r.time_thresh);
+    let at = put_value(out, at, tag, b"lost_spurious_count", r.lost_spurious_count);
+    let at = put_value(out, at, tag, b"pkt_thresh", r.pkt_thresh);
+    put_value(out, at, tag, b"time_thresh", r.time_thresh)
 }
 
 // The PTO count, the run of non-eliciting packets and the bytes that may be sent.
-pub fn put_counts<const N: usize>(out: &mut Text<N>, tag: &[u8], count: u64, run: u64, bytes: u64)
-    ensures { Put N out.old (count_words tag.now count run bytes) out.new }
+pub fn put_counts(out: &mut [u8], at: usize, tag: &[u8], count: u64, run: u64, bytes: u64) -> usize
+    ensures { Put out.old at (count_words tag.now count run bytes) out.new result }
 {
-    put_value(out, tag, b"pto_count", count);
-    put_value(out, tag, b"outstanding_non_ack_eliciting", run);
-    put_value(out, tag, b"cwnd_available", bytes);
+    let at = put_value(out, at, tag, b"pto_count", count);
+    let at = put_value(out, at, tag, b"outstanding_non_ack_eliciting", run);
+    put_value(out, at, tag, b"cwnd_available", bytes)
 }
 
-pub fn put_shared<const N: usize>(out: &mut Text<N>, tag: &[u8], s: Shared, bytes: u64)
-    ensures { Put N out.old (shared_words tag.now s bytes) out.new }
+pub fn put_shared(out: &mut [u8], at: usize, tag: &[u8], s: Shared, bytes: u64) -> usize
+    ensures { Put out.old at (shared_words tag.now s bytes) out.new result }
 {
-    put_rtt(out, tag, s.rtt);
-    put_congestion(out, tag, s.congestion);
-    put_reordering(out, tag, s.reordering);
+    let at = put_rtt(out, at, tag, s.rtt);
+    let at = put_congestion(out, at, tag, s.congestion);
+    let at = put_reordering(out, at, tag, s.reordering);
     put_counts(
         out,
+        at,
         tag,
         s.pto_count,
         s.outstanding_non_ack_eliciting,
         bytes,
-    );
+    )
 }

@@ -1,4 +1,4 @@
-// Words `name=value`, put behind what a line has.
+// Words `name=value` written into a lent buffer from a place on; each answers the place after. What does not fit is dropped.
 ghost use Rattle.std.specs.Prelude.{[], ◌∷◌, ◌++◌, ◌≡◌, ℕ, List, suc, ◌%◌};
 ghost use Rattle.std.specs.Float.{binary64};
 ghost use Rattle.std.specs.Float.Ieee.{to_bits};
@@ -8,10 +8,7 @@ ghost use Rattle.field.specs.Words.{named, number_text, bit_text, threshold_text
 
 use arith::round::TimeThreshold;
 use arith::time::Moment;
-use trace::text::Text;
-
-// Room for any line.
-pub type Line = Text<2048>;
+use trace::put::{put_byte, put_decimal, put_timer, put_word};
 
 // The pattern that stands for every NaN.
 const NAN_BITS: u64 = 9221120237041090560;
@@ -29,13 +26,14 @@ fn hex_digit(n: u64) -> u8
 }
 
 // A number's last hex digits: one, and so many more before it.
-pub fn put_hex<const N: usize>(out: &mut Text<N>, n: u64, more: usize)
-    ensures { Put N out.old (hex (suc more) n []) out.new }
+pub fn put_hex(out: &mut [u8], at: usize, n: u64, more: usize) -> usize
+    ensures { Put out.old at (hex (suc more) n []) out.new result }
 {
-    if more > 0 {
-        put_hex(out, n / 16, more - 1);
+    if more == 0 {
+        return put_byte(out, at, hex_digit(n));
     }
-    out.put_byte(hex_digit(n));
+    let at = put_hex(out, at, n / 16, more - 1);
+    put_byte(out, at, hex_digit(n))
 }
 
 // The bits of a float.
@@ -46,79 +44,79 @@ pub fn bits_of(x: f64) -> u64
 }
 
 // What stands behind a word's `=`.
-pub trait Value<const N: usize> {
+pub trait Value {
     ghost text: { Self → List ℕ };
 
-    fn put(self, out: &mut Text<N>)
-        ensures { Put N out.old (text self) out.new };
+    fn put(self, out: &mut [u8], at: usize) -> usize
+        ensures { Put out.old at (text self) out.new result };
 }
 
 // A number in decimal.
-impl<const N: usize> Value<N> for u64 {
+impl Value for u64 {
     ghost text = { decimal };
 
-    fn put(self, out: &mut Text<N>) {
-        out.put_decimal(self);
+    fn put(self, out: &mut [u8], at: usize) -> usize {
+        put_decimal(out, at, self)
     }
 }
 
 // A moment in nanoseconds, or `-`.
-impl<const N: usize> Value<N> for Option<Moment> {
+impl Value for Option<Moment> {
     ghost text = { timer_text };
 
-    fn put(self, out: &mut Text<N>) {
-        out.put_timer(self);
+    fn put(self, out: &mut [u8], at: usize) -> usize {
+        put_timer(out, at, self)
     }
 }
 
 // A number, or `-`.
-impl<const N: usize> Value<N> for Option<u64> {
+impl Value for Option<u64> {
     ghost text = { number_text };
 
-    fn put(self, out: &mut Text<N>) {
+    fn put(self, out: &mut [u8], at: usize) -> usize {
         match self {
-            None => out.put_byte(b'-'),
-            Some(n) => out.put_decimal(n),
+            None => put_byte(out, at, b'-'),
+            Some(n) => put_decimal(out, at, n),
         }
     }
 }
 
 // 1 or 0.
-impl<const N: usize> Value<N> for bool {
+impl Value for bool {
     ghost text = { bit_text };
 
-    fn put(self, out: &mut Text<N>) {
-        out.put_byte(if self { b'1' } else { b'0' });
+    fn put(self, out: &mut [u8], at: usize) -> usize {
+        put_byte(out, at, if self { b'1' } else { b'0' })
     }
 }
 
 // A float as the 16 hex digits of its bits.
-impl<const N: usize> Value<N> for f64 {
+impl Value for f64 {
     ghost text = { float_text };
 
-    fn put(self, out: &mut Text<N>) {
-        put_hex(out, bits_of(self), 15);
+    fn put(self, out: &mut [u8], at: usize) -> usize {
+        put_hex(out, at, bits_of(self), 15)
     }
 }
 
 // `9/8` or `5/4`.
-impl<const N: usize> Value<N> for TimeThreshold {
+impl Value for TimeThreshold {
     ghost text = { threshold_text };
 
-    fn put(self, out: &mut Text<N>) {
+    fn put(self, out: &mut [u8], at: usize) -> usize {
         match self {
-            TimeThreshold::NineEighths => out.put_word(b"9/8"),
-            TimeThreshold::FiveFourths => out.put_word(b"5/4"),
+            TimeThreshold::NineEighths => put_word(out, at, b"9/8"),
+            TimeThreshold::FiveFourths => put_word(out, at, b"5/4"),
         }
     }
 }
 
 // What stands before a word, its name, `=` and its value.
-pub fn put_value<const N: usize, V: Value<N>>(out: &mut Text<N>, tag: &[u8], name: &[u8], value: V)
-    ensures { Put N out.old (named tag.now name.now (V.text value)) out.new }
+pub fn put_value<V: Value>(out: &mut [u8], at: usize, tag: &[u8], name: &[u8], value: V) -> usize
+    ensures { Put out.old at (named tag.now name.now (V.text value)) out.new result }
 {
-    out.put_word(tag);
-    out.put_word(name);
-    out.put_byte(b'=');
-    value.put(out);
+    let at = put_word(out, at, tag);
+    let at = put_word(out, at, name);
+    let at = put_byte(out, at, b'=');
+    value.put(out, at)
 }

@@ -11,13 +11,16 @@ use Rattle.model.specs.Sent.{marked}
 use Rattle.model.specs.declared.Sent.{Sent}
 use Rattle.records.specs.View.{record_by, record_at, ring, records_of}
 use Rattle.records.proofs.Laws.{record-mod, record-by, record-acked}
-use Rattle.records.proofs.Rings.{ring-step, ring-split, length-ring}
+use Rattle.records.proofs.Rings.{ring-step, ring-split, ring-ext, length-ring}
 use Rattle.marks.specs.Marks.{flagged, mark_of, acked_mark, mark_acked, held_at, acked_at, is_newly, newly_of, acked_all}
 
 -- ---- places taken round
 module _ (m : List ℕ) (n head : ℕ) where
   pub held-round : (i : ℕ) → held_at m n (head % capacity) i ≡ held_at m n head i
   held-round i = sym (record-mod m n (head % capacity + i)) ∙ ap (record_at m n) (mod-add-mod head capacity i) ∙ record-mod m n (head + i)
+
+  pub held-rounds : (a c : ℕ) → ring (held_at m n (head % capacity)) a c ≡ ring (held_at m n head) a c
+  held-rounds a c = ring-ext (held_at m n (head % capacity)) (held_at m n head) a c (λ i lt. held-round (a + i))
 
   -- the records from place a on are those from slot head + a on
   pub held-ring : (a c : ℕ) → ring (held_at m n head) a c ≡ records_of m n (head + a) c

@@ -4,3 +4,4 @@ pub mod Shown
 pub mod Chunk
 pub mod Whole
 pub mod One
+pub mod LentTurns

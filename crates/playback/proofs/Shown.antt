@@ -12,7 +12,7 @@ use Rattle.trace.specs.Reading.{found_at, kind_at, next_at}
 use Rattle.trace.specs.declared.Found.{Found}
 use Rattle.trace.specs.declared.Found.TheVariants as found
 use Rattle.trace.proofs.Lines.{shown-length, bad-length, end-length}
-use Rattle.trace.proofs.Puts.{put_all}
+use Rattle.trace.proofs.Behinds.{behind_all}
 use Rattle.play.specs.Answers.{answered_says}
 use Rattle.playback.specs.Turns.{answer_in, Turns}
 use Rattle.playback.specs.Printed.{lines_of, is_last, lines_from, unless_ended, Sound, Tells, Shows}
@@ -31,7 +31,7 @@ module _ (bytes : List ℕ) (r r' : Replay) (x : Met) (byte : kind_at bytes r.at
   line = lines_of x r.at r'
 
   -- every line fits 96 bytes
-  small_by : (f : Found) → Turns f (kind_at bytes r.at) (next_at bytes r.at) x r r' → length (printed line) ≤ 96
+  pub small_by : (f : Found) → Turns f (kind_at bytes r.at) (next_at bytes r.at) x r r' → length (printed line) ≤ 96
   unfolding printed
   small_by found.End h = rw (h.met, h.replay) (end-length r.accepted)
   small_by found.Bad h = rw h.met (bad-length r.at)
@@ -53,7 +53,7 @@ module _ (bytes : List ℕ) (r r' : Replay) (x : Met) (byte : kind_at bytes r.at
         ∙ (printed-append line (unless_ended (is_last x) rest) ∙ ap (λ (l : List ℕ). printed line ++ l) (printed-unless (is_last x) rest))
 
     put : out' ≡ out ++ printed line
-    put = let small = small_by (found_at bytes r.at) turns in put_all tells.put (omega arith)
+    put = let small = small_by (found_at bytes r.at) turns in behind_all tells.put (omega arith)
 
     pub step-shows : Shows bytes out out' r r' ended
     step-shows =

@@ -3,3 +3,4 @@ pub mod Printed
 pub mod Start
 pub mod Input
 pub mod Whole
+pub mod Lent

@@ -4,7 +4,7 @@ use Rattle.model.specs.Connection.{Connection}
 use Rattle.model.specs.Run.{refusal_of}
 use Rattle.model.specs.Trace.{Line, shows, bad_at, end, printed}
 use Rattle.connection.specs.View.{connection_of}
-use Rattle.trace.specs.Put.{Put}
+use Rattle.trace.specs.Behind.{Behind}
 use Rattle.trace.specs.Reading.{replay_at}
 use Rattle.play.specs.Answers.{answered_says}
 use Rattle.playback.specs.declared.Met.{Met}
@@ -17,12 +17,16 @@ use Rattle.playback.specs.declared.Replay.{Replay}
 abbrev pub shown_of : ℕ → ℕ → Connection → Line
 shown_of kind refusal c = shows kind refusal c.shared.congestion.congestion_window c.shared.bytes_in_flight c.shared.loss_timer
 
--- the line of what was met at an offset, told from the replay after it; a range has none
+-- the line of what was met at an offset, told from the events accepted and the connection after it; a range has none
+abbrev pub line_met : Met → ℕ → ℕ → Connection → List Line
+line_met met.End at n c = end n ∷ []
+line_met met.Bad at n c = bad_at at ∷ []
+line_met met.Held at n c = []
+line_met (met.Event kind a) at n c = shown_of kind (refusal_of (answered_says a)) c ∷ []
+
+-- told from the replay after it
 abbrev pub lines_of : Met → ℕ → Replay → List Line
-lines_of met.End at r = end r.accepted ∷ []
-lines_of met.Bad at r = bad_at at ∷ []
-lines_of met.Held at r = []
-lines_of (met.Event kind a) at r = shown_of kind (refusal_of (answered_says a)) (connection_of r.words r.state) ∷ []
+lines_of x at r = line_met x at r.accepted (connection_of r.words r.state)
 
 -- whether it is the last one
 abbrev pub is_last : Met → Bool
@@ -33,7 +37,7 @@ is_last (met.Event kind a) = false
 
 -- the turn's line is put behind what a text of N bytes has
 pub record Tells (N : ℕ) (x : Met) (at : ℕ) (r : Replay) (out out' : List ℕ) (last : Bool) : Type 0 where
-  pub put : Put N out (printed (lines_of x at r)) out'
+  pub put : Behind N out (printed (lines_of x at r)) out'
   pub ended : last ≡ is_last x
 
 -- ---- what is still to come

@@ -17,11 +17,12 @@ use trace::read::{find, kind_at, next};
 use trace::{Event, Found, Range};
 
 pub mod input;
+pub mod lent;
 pub mod line;
 pub mod start;
 
 // A connection with its words, and where it stands in the trace that it replays.
-#[derive(Drop)]
+#[derive(Clone, Copy)]
 pub struct Replay {
     // the offset of the next kind byte
     pub at: usize,

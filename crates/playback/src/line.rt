@@ -1,9 +1,8 @@
 // An event's line, and what a turn has to tell, put behind what was told before. 01 'Replay and the host'.
-ghost use Rattle.std.specs.Prelude.{List, [], ◌∷◌, ◌≡◌, ℕ};
+ghost use Rattle.std.specs.Prelude.{List, [], ◌∷◌, ◌≡◌, ℕ, take};
 ghost use Rattle.model.specs.Trace.{printed};
 ghost use Rattle.connection.specs.View.{connection_of};
-ghost use Rattle.trace.specs.Put.{Put};
-ghost use Rattle.playback.specs.Printed.{shown_of, lines_of, is_last, Tells};
+ghost use Rattle.playback.specs.Printed.{shown_of, line_met, is_last, Tells};
 
 use crate::{Met, Replay};
 use connection::State;
@@ -25,24 +24,29 @@ pub fn event_line(kind: u8, refusal: u64, s: State) -> Text<96>
     )
 }
 
-fn is_last(met: Met) -> bool
+// The first n bytes.
+pub fn first(bytes: &[u8], n: usize) -> &[u8]
+    ensures { result.now ≡ take n bytes.now }
+{
+    &bytes[..n.min(bytes.len())]
+}
+
+pub(crate) fn is_last(met: Met) -> bool
     ensures { result ≡ is_last met }
 {
     matches!(met, Met::End | Met::Bad)
 }
 
-// The line of what was met at an offset, told from the replay after it; a range has none.
-#[tactic(auto, using(trace::proofs::Puts::put_none), unfolding(model::specs::Trace::printed))]
-fn put_met<const N: usize>(out: &mut Text<N>, met: Met, at: usize, r: &Replay)
-    ensures { Put N out.old (printed (lines_of met at r.now)) out.new }
+// The line of what was met at an offset, told from the events accepted and the state after it; a range has none.
+#[tactic(auto, unfolding(model::specs::Trace::printed))]
+pub(crate) fn met_line(met: Met, at: usize, accepted: u64, s: &State) -> Text<96>
+    ensures { (m : List ℕ) → result ≡ printed (line_met met at accepted (connection_of m s.now)) }
 {
     match met {
-        Met::End => out.put_word(end(r.accepted).as_bytes()),
-        Met::Bad => out.put_word(bad_at(at as u64).as_bytes()),
-        Met::Held => {}
-        Met::Event(kind, answered) => {
-            out.put_word(event_line(kind, refusal_number(answered), r.state).as_bytes())
-        }
+        Met::End => end(accepted),
+        Met::Bad => bad_at(at as u64),
+        Met::Held => Text::new(),
+        Met::Event(kind, answered) => event_line(kind, refusal_number(answered), *s),
     }
 }
 
@@ -50,6 +54,6 @@ fn put_met<const N: usize>(out: &mut Text<N>, met: Met, at: usize, r: &Replay)
 pub fn tell<const N: usize>(out: &mut Text<N>, met: Met, at: usize, r: &Replay) -> bool
     ensures { Tells N met at r.now out.old out.new result }
 {
-    put_met(out, met, at, r);
+    out.put_word(met_line(met, at, r.accepted, &r.state).as_bytes());
     is_last(met)
 }

@@ -75,12 +75,11 @@ module _ (m : List ℕ) (n first count i total N : ℕ) (inv : total + outstandi
         let b = step lt in
         ap Err only ∙ sym (within-over N (omega arith))
 
-pub scan_end : (m : List ℕ) (n first k : ℕ) {count i total : ℕ} → count ≡ k → total + outstanding (records_of m n (first + i) (count - i)) ≡ outstanding (records_of m n first count) → count ≤ i → total ≤ limit →
-    Ok total ≡ within (outstanding (records_of m n first k))
-scan_end m n first k {count} {i} {total} same inv le small =
-    let a = outstanding-none m n (first + i) (count - i) (omega arith) in
-    let b : total ≡ outstanding (records_of m n first count) = omega arith in
-    rw (← same, ← b) (sym (within-fine total small))
+  pub scan_end : count ≤ i → total ≤ limit → Ok total ≡ within N
+  scan_end le small =
+      let a = outstanding-none m n (first + i) (count - i) (omega arith) in
+      let b : total ≡ N = omega arith in
+      rw b (sym (within-fine N (omega arith)))
 
 pub scan_start : (m : List ℕ) (n first count : ℕ) → 0 + outstanding (records_of m n (first + 0) (count - 0)) ≡ outstanding (records_of m n first count)
 scan_start m n first count =

@@ -55,6 +55,20 @@ count-first x (r ∷ l) = ⊎_elim
     later : {c : ℕ} → r.number < x → First x l c → First x (r ∷ l) (suc c)
     later {c} lt f = record { inside = omega (arith, f.inside); below = before c lt f.below; above = λ q. f.above (omega arith) }
 
+-- there is one at most
+pub one-first : (x : ℕ) (l : List Sent) (r s : ℕ) → First x l r → First x l s → r ≡ s
+one-first x l r s f g = ⊎_elim
+    (λ lt. absurd (let a = g.below r lt in let b = f.above (omega (arith, g.inside)) in let z : ⊥ = omega arith in z))
+    (λ ge. ⊎_elim
+    (λ lt. absurd (let a = f.below s lt in let b = g.above (omega (arith, f.inside)) in let z : ⊥ = omega arith in z))
+    (λ le. omega arith)
+    (lt-or-ge s r))
+    (lt-or-ge r s)
+
+-- so the halving finds as many as are below x from the front on
+pub place-count : (x : ℕ) (l : List Sent) → Rising l → place_of x l ≡ count_below x l
+place-count x l rising = one-first x l (place_of x l) (count_below x l) (place-first x l rising) (count-first x l)
+
 -- from there on none is below x
 from_first : (x : ℕ) (l : List Sent) (r : ℕ) → Rising l → First x l r → (i : ℕ) → r ≤ i → i < length l → x ≤ number_at l i
 from_first x l r rising f i le lt = ⊎_elim

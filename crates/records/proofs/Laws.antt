@@ -10,7 +10,7 @@ use native.Mathlib.Omega.{arith}
 use borrow.Author.Tests.{ne_eqb}
 use lib.Dec.{eqb}
 use lib.ListN.{length, get_or, set, drop, length-set, length-append}
-use lib.Seq.{get_or-set_same, get_or-set_other, set_at}
+use lib.Seq.{get_or-set_same, get_or-set_other, set_at, set-set}
 use Rattle.arith.specs.Time.{moment}
 use Rattle.arith.specs.declared.time.Moment.{Moment}
 use Rattle.model.specs.Numbers.{capacity, is_unset}
@@ -58,6 +58,13 @@ slot-spaces n n' w w' i j p e = p (omega arith)
 
 -- ---- the length stays
 module _ (m : List ℕ) (n : ℕ) where
+  pub length-store-record : (k : ℕ) (time : Moment) (p : Packet) → length (store_record m n k time p) ≡ length m
+  unfolding store_record
+  length-store-record k time p = simp length-set
+
+  pub length-store-mark : (k mark : ℕ) → length (store_mark m n k mark) ≡ length m
+  length-store-mark k mark = length-set m (at n k 5) mark
+
   pub length-store-handle : (w i handle : ℕ) → length (store_handle m n w i handle) ≡ length m
   length-store-handle w i handle = length-set m (slot n w i) handle
 
@@ -263,6 +270,18 @@ module _ (m : List ℕ) (n k mark : ℕ) where
       let l : at n k 5 < length m = rw full (at_in n k 5 (omega arith)) in
       let e : (j : ℕ) → j < 5 → get_or (set m (at n k 5) mark) (at n k j) 0 ≡ get_or m (at n k j) 0 = λ j lt. mark-other (at n k j) (at_words n k 5 j (λ e. omega arith)) in
       rw (get_or-set_same m (at n k 5) mark 0 l, e 0 (omega arith), e 1 (omega arith), e 2 (omega arith), e 3 (omega arith), e 4 (omega arith))
+
+  -- the records of another space stay, and so do all queues
+  pub mark-space : (n' head len : ℕ) → n' % 3 ≢ n % 3 → records_of (store_mark m n k mark) n' head len ≡ records_of m n' head len
+  mark-space n' head len off =
+      records-ext m (store_mark m n k mark) n' head len (λ k' j lt. mark-other (at n' k' j) (at-spaces n n' k k' 5 j off (omega arith) lt))
+
+  pub mark-queue : (n' w len : ℕ) → queue_of (store_mark m n k mark) n' w len ≡ queue_of m n' w len
+  mark-queue n' w len = queue-ext m (store_mark m n k mark) n' w len (λ i lt. mark-other (slot n' w i) (at-queue n n' k w i 5 (omega arith)))
+
+  -- the last mark stands
+  pub mark-twice : (mark' : ℕ) → store_mark (store_mark m n k mark) n k mark' ≡ store_mark m n k mark'
+  mark-twice mark' = set-set m (at n k 5) mark mark'
 
 -- a mark on the record at place i changes that one alone
 module _ (m : List ℕ) (n head i len mark : ℕ) (full : length m ≡ all_words) (lt : i < len) (fits : len ≤ capacity) where

@@ -53,11 +53,12 @@ pub enum Queue {
     LostFramesPto,
 }
 
-impl Queue {
-    fn place(self) -> usize
-        ensures { result ≡ queue_place self }
-    {
-        match self {
+// Its number, as readers and writers of queues take it: they take any number, modulo 3.
+impl From<Queue> for u64 {
+    ghost from_gives = { λ w n. n ≡ queue_place w };
+
+    fn from(w: Queue) -> u64 {
+        match w {
             Queue::AckedFrames => 0,
             Queue::LostFramesAck => 1,
             Queue::LostFramesPto => 2,
@@ -87,10 +88,10 @@ fn at(n: u64, k: usize, word: Word) -> usize
 }
 
 // Where place i of queue w of space n lies.
-fn slot(n: u64, w: Queue, i: usize) -> usize
-    ensures { result ≡ slot n (queue_place w) i }
+fn slot(n: u64, w: u64, i: usize) -> usize
+    ensures { result ≡ slot n w i }
 {
-    SPACE_WORDS * ((n % 3) as usize) + (QUEUES + (CAPACITY * w.place() + i % CAPACITY))
+    SPACE_WORDS * ((n % 3) as usize) + (QUEUES + (CAPACITY * ((w % 3) as usize) + i % CAPACITY))
 }
 
 // A word of the record in slot k of space n.
@@ -166,14 +167,14 @@ pub fn store_mark(m: &mut Words, n: u64, k: usize, mark: u64)
 }
 
 // The handle at place i of queue w of space n.
-pub fn handle_at(m: &Words, n: u64, w: Queue, i: usize) -> u64
-    ensures { result ≡ get_or m.now (slot n (queue_place w) i) 0 }
+pub fn handle_at(m: &Words, n: u64, w: u64, i: usize) -> u64
+    ensures { result ≡ get_or m.now (slot n w i) 0 }
 {
     m[slot(n, w, i)]
 }
 
-pub fn store_handle(m: &mut Words, n: u64, w: Queue, i: usize, handle: u64)
-    ensures { m.new ≡ store_handle m.old n (queue_place w) i handle }
+pub fn store_handle(m: &mut Words, n: u64, w: u64, i: usize, handle: u64)
+    ensures { m.new ≡ store_handle m.old n w i handle }
 {
     m[slot(n, w, i)] = handle;
 }

@@ -8,8 +8,8 @@ use crate::memory::{Queue, Words, handle_at, store_handle};
 
 // What a taker gets of queue w of space n, which holds len handles: the newest, or 0. 01 Timer and PTO (000); refusals
 #[tactic(auto, using(crate::proofs::Laws::newest_none, crate::proofs::Laws::newest_some))]
-pub fn newest_handle(m: &Words, n: u64, w: Queue, len: usize) -> u64
-    ensures { result ≡ newest (queue_of m.now n (queue_place w) len) }
+pub fn newest_handle(m: &Words, n: u64, w: u64, len: usize) -> u64
+    ensures { result ≡ newest (queue_of m.now n w len) }
 {
     if len == 0 {
         0
@@ -26,6 +26,6 @@ pub fn put(m: &mut Words, n: u64, w: Queue, i: usize, handle: u64) -> usize
     if handle == 0 {
         return 0;
     }
-    store_handle(m, n, w, i, handle);
+    store_handle(m, n, u64::from(w), i, handle);
     1
 }

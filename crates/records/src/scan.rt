@@ -21,7 +21,8 @@ fn weight_at(m: &Words, n: u64, k: usize) -> u64
     }
 }
 
-// The bytes in flight by the records of space n. 01 Replay and the host: the audit's total
+// The bytes in flight by the records of space n. In line in an event, each turn would write the whole state of a refusal. 01 Replay and the host: the audit's total
+#[inline(never)]
 #[tactic(auto, using(crate::proofs::Bytes::scan_start, crate::proofs::Bytes::scan_small, crate::proofs::Bytes::scan_on, crate::proofs::Bytes::scan_over))]
 pub fn outstanding_bytes(m: &Words, n: u64, head: usize, len: usize) -> Result<u64, Refusal>
     ensures { result ≡ within (outstanding (records_of m.now n (head % capacity) (min len capacity))) }

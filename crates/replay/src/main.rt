@@ -2,15 +2,19 @@
 // What `fill` puts out, chunk after chunk, is proved to be the definition's lines; that they are written is the C library's.
 #![tactic(auto)]
 
-ghost use Rattle.std.specs.Prelude.{[], ◌+◌, ◌≤◌, length};
+ghost use Rattle.std.specs.Prelude.{[], ◌+◌, ◌≤◌, IfSome, IfOk, length};
 ghost use Rattle.playback.specs.Printed.{Sound, Shows};
 
+use anyhow::Context;
 use play::Told;
 use playback::line::{event_line, tell};
 use playback::{Met, Replay};
-use program::{Printer, run};
-use std::io;
-use std::io::Write;
+use program::sound::SoundReplay;
+use program::{Failed, Printer, print_from};
+use std::env::{Env, FillError};
+use std::io::{Read, Write};
+use std::rt::Files;
+use std::{fs, io, str};
 use trace::text::Text;
 
 // The longest line, and what is put out at a time, in bytes.
@@ -66,14 +70,68 @@ impl Printer for Chunks {
 
     ghost to_come = { λ bytes r. printed (lines_from bytes r) };
 
-    fn print<W: Write>(bytes: &[u8], r: &mut Replay, out: &mut W) -> io::Result<bool> {
+    fn print<W: Write>(bytes: &[u8], r: &mut SoundReplay, out: &mut W) -> io::Result<bool> {
         let mut chunk = Text::new();
-        let ended = fill(bytes, &mut chunk, r);
+        let ended = fill(bytes, &mut chunk, &mut r.replay);
         out.write_all(chunk.as_bytes())?;
         Ok(ended)
     }
 }
 
+fn replay_from<R: Read, W: Write>(reader: &mut R, name: &str, out: &mut W) -> anyhow::Result<()> {
+    match print_from::<Chunks, _, _>(reader, out) {
+        Ok(()) => Ok(()),
+        Err(Failed::Read(error)) => Err(error).context(name),
+        Err(Failed::Write(error)) => Err(error).context("standard output"),
+    }
+}
+
+fn replay_path(rt: &(impl Files + Print), path: &str) -> anyhow::Result<()> {
+    let mut file = fs::open(rt, path).context(path)?;
+    replay_from(&mut file, path, &mut io::writer(rt))
+}
+
+// The argument at i, as text, if there are so many. One that room can't hold is longer than a path may be.
+fn argument<'a>(rt: &impl Env, i: usize, room: &'a mut [u8]) -> Option<io::Result<&'a str>>
+    ensures { IfSome result (λ given. IfOk given (λ path. length path.now ≤ length room.old)) }
+{
+    let n = match rt.arg(i, room) {
+        Ok(n) => n,
+        Err(FillError::NotPresent) => return None,
+        Err(FillError::TooLong) => {
+            return Some(Err(io::Error::from(io::ErrorKind::InvalidFilename)));
+        }
+    };
+    Some(match str::from_utf8(&room[..n]) {
+        Ok(path) => Ok(path),
+        Err(_) => Err(io::Error::from(io::ErrorKind::InvalidData)),
+    })
+}
+
+fn is_given(rt: &impl Env, i: usize) -> bool {
+    !matches!(rt.arg(i, &mut [0]), Err(FillError::NotPresent))
+}
+
+// The trace at the path that is the only argument, or on standard input.
+fn run(rt: &(impl Env + Files + Input + Print + Eprint)) -> anyhow::Result<()> {
+    let mut room = [0; 4096];
+    let Some(path) = argument(rt, 1, &mut room) else {
+        return replay_from(&mut rt.reader(), "standard input", &mut io::writer(rt));
+    };
+    if is_given(rt, 2) {
+        return eprint!(rt; "{USAGE}").context("standard error");
+    }
+    let path = path.context("PATH")?;
+    if path == "--help" {
+        return print!(rt; "{USAGE}").context("standard output");
+    }
+    replay_path(rt, path)
+}
+
+// What fails is told in a line on standard error.
 fn main(rt: HostRuntime) -> anyhow::Result<()> {
-    run::<Chunks>(&rt, USAGE)
+    if let Err(error) = run(&rt) {
+        eprintln!(rt; "{error:#}").context("standard error")?;
+    }
+    Ok(())
 }

@@ -2,6 +2,8 @@ pub mod Standing
 pub mod Replay
 pub mod Holding
 pub mod Puts
+pub mod Behinds
+pub mod Padding
 pub mod Digits
 pub mod Lines
 pub mod Fields

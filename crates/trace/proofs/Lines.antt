@@ -1,15 +1,29 @@
 -- A line, put together from its fields, and its length: every line fits 96 bytes. Assumes nothing.
-use mathlib.Core.Path.{◌≡◌, refl}
+use mathlib.Core.Path.{◌≡◌, refl, ap, ◌∙◌}
 use mathlib.Core.List.{List, [], ◌∷◌, ◌++◌, append_assoc}
 use Prim.Native.Nat.{ℕ, ◌+◌, ◌≤◌, ◌<◌}
 use native.Mathlib.Omega.{arith}
-use lib.ListN.{length, length-append}
+use lib.ListN.{length, replicate, length-append, length-replicate}
+use lib.Seq.{sets-eq}
+use Rattle.std.proofs.lemmas.List.{drop-replicate}
 use Rattle.model.specs.Trace.{Line, shows, bad_at, end, text, printed, decimal, timer_text, spaced}
 use Rattle.trace.specs.Put.{Put}
-use Rattle.trace.proofs.Puts.{put_then, put_all}
+use Rattle.trace.specs.Behind.{Behind}
+use Rattle.trace.specs.Padded.{padded}
+use Rattle.trace.proofs.Behinds.{behind_then, behind_all}
 use Rattle.trace.proofs.Digits.{decimal-length, decimal-short}
 use Rattle.std.specs.Prelude.{Option, Some, None}
 use Rattle.arith.specs.declared.time.Moment.{Moment}
+
+-- ---- a buffer of zeros that a list was written into
+
+pub put-padded : {z out : List ℕ} {n : ℕ} (size : ℕ) (l : List ℕ) → z ≡ replicate size 0 → Put z 0 l out n → length l ≤ size → (out ≡ padded size l) × (n ≡ length l)
+put-padded {z} {out} {n} size l e p le =
+    let f : length z ≡ size = ap length e ∙ length-replicate size 0 in
+    let g : z ≡ replicate size 0 = e in (
+      p.bytes ∙ (sets-eq l z 0 (omega arith) ∙ ap (λ (r : List ℕ). l ++ r) (rw (e) (let h : 0 + length l ≡ length l = omega arith in rw h (drop-replicate (length l) size 0)))),
+      p.place ∙ (omega arith),
+    )
 
 -- ---- a line's fields
 
@@ -45,9 +59,9 @@ shown-length kind refusal window bytes timer lt =
     omega arith
 
 -- a line put on an empty text is the line: it fits
-pub whole-line : (line : Line) {a b : List ℕ} → Put 96 [] (text line) a → Put 96 a (10 ∷ []) b → length (printed (line ∷ [])) ≤ 96 → b ≡ printed (line ∷ [])
+pub whole-line : (line : Line) {a b : List ℕ} → Behind 96 [] (text line) a → Behind 96 a (10 ∷ []) b → length (printed (line ∷ [])) ≤ 96 → b ≡ printed (line ∷ [])
 unfolding printed
-whole-line line p q le = put_all (put_then p q) (omega arith)
+whole-line line p q le = behind_all (behind_then p q) (omega arith)
 
 -- ---- the last line
 

@@ -1,6 +1,8 @@
--- Bytes put behind those that a text of at most N bytes has. Definitions only.
-use Rattle.std.specs.Prelude.{ℕ, ◌-◌, List, ◌++◌, ◌≡◌, length, take}
+-- Bytes written into a lent buffer from a place on. Definitions only.
+use Rattle.std.specs.Prelude.{ℕ, ◌+◌, min, List, ◌≡◌, length}
+use Rattle.std.proofs.lemmas.List.Edits.{sets}
 
--- what does not fit is dropped
-pub record Put (N : ℕ) (t l after : List ℕ) : Type 0 where
-  pub is : after ≡ t ++ take (N - length t) l
+-- the list is written from the place on, as far as the buffer reaches, and nothing else is changed; next is the place after it
+pub record Put (out : List ℕ) (at : ℕ) (l : List ℕ) (after : List ℕ) (next : ℕ) : Type 0 where
+  pub bytes : after ≡ sets out at l
+  pub place : next ≡ min (at + length l) (length out)

@@ -7,6 +7,7 @@ use model::{HandshakeStatus, Packet};
 
 pub mod held;
 pub mod line;
+pub mod put;
 pub mod read;
 pub mod text;
 

@@ -185,7 +185,7 @@ module _ (m : List ℕ) (full : length m ≡ all_words) (n : ℕ) (nn : n < 3) (
   abbrev q : SpaceState
   q = normal_of (space_state_at n s)
 
-  len-fits : q.len ≤ capacity
+  pub len-fits : q.len ≤ capacity
   unfolding normal_of
   len-fits = omega arith
 

@@ -10,4 +10,4 @@ returns-then-n-ge3 c = rw c.refused.ensures (acked-refused c.args.m.now c.args.n
 pub returns : goal.returns
 unfolding normal_of
 returns c =
-    acked-does c.args.m.now c.args.n c.args.s c.if-n-ge3.false (rw (c.normal.ensures, c.space_at.ensures) at c.newest_handle-handle.ensures) (c.with_counts.ensures ∙ rw (c.saturating_sub.ensures, c.normal.ensures, c.space_at.ensures))
+    acked-does c.args.m.now c.args.n c.args.s c.if-n-ge3.false (rw (c.from.ensures, c.normal.ensures, c.space_at.ensures) at c.newest_handle-handle.ensures) (c.with_counts.ensures ∙ rw (c.saturating_sub.ensures, c.normal.ensures, c.space_at.ensures))

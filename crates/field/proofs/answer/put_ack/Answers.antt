@@ -6,4 +6,4 @@ use Rattle.field.proofs.answer.put_ack.Goals as goal
 
 pub returns : goal.returns
 unfolding ack_words
-returns g c = search (rules, sentences)
+returns c = search (rules, sentences)

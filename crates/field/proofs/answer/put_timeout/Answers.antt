@@ -6,4 +6,4 @@ use Rattle.field.proofs.answer.put_timeout.Goals as goal
 
 pub returns : goal.returns
 unfolding timeout_words
-returns g c = search (rules, sentences)
+returns c = search (rules, sentences)

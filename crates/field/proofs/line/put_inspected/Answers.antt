@@ -11,8 +11,8 @@ use Rattle.field.proofs.line.put_inspected.Goals as goal
 
 pub returns : goal.returns
 unfolding connection_of cwnd_available_of available_in inspected
-returns g c =
+returns c =
     λ m.
-    put_then c.put_fields.ensures (put_then c.put_told.ensures
-    (put_then (put_same (ap (λ (n : ℕ). shared_words apart c.args.s.shared n) (c.cwnd_available.ensures m)) c.put_shared.ensures)
-    (put_then (c.put_spaces.ensures m) (put_last c.put_byte.ensures))))
+    put_then c.put_fields-at.ensures (put_then c.put_told-at.ensures
+    (put_then (put_same (ap (λ (n : ℕ). shared_words apart c.args.s.shared n) (c.cwnd_available.ensures m)) c.put_shared-at.ensures)
+    (put_then (c.put_spaces-at.ensures m) (put_last c.put_byte.ensures))))

@@ -7,4 +7,5 @@ use Rattle.field.proofs.line.put_spaces.Goals as goal
 
 pub returns : goal.returns
 unfolding connection_of spaces_words
-returns g c = λ m. put_then (c.put_space.ensures m 0) (put_then (c.put_space-2.ensures m 1) (put_last (c.put_space-3.ensures m 2)))
+returns c =
+    λ m. put_then (c.put_space-at.ensures m 0) (put_then (c.put_space-at-2.ensures m 1) (put_last (c.put_space.ensures m 2)))

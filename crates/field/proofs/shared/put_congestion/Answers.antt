@@ -6,4 +6,4 @@ use Rattle.field.proofs.shared.put_congestion.Goals as goal
 
 pub returns : goal.returns
 unfolding congestion_words
-returns g c = search (rules, sentences)
+returns c = search (rules, sentences)

@@ -6,4 +6,4 @@ use Rattle.field.proofs.shared.put_counts.Goals as goal
 
 pub returns : goal.returns
 unfolding count_words
-returns g c = search (rules, sentences)
+returns c = search (rules, sentences)

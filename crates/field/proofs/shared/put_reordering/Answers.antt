@@ -6,4 +6,4 @@ use Rattle.field.proofs.shared.put_reordering.Goals as goal
 
 pub returns : goal.returns
 unfolding reordering_words
-returns g c = search (rules, sentences)
+returns c = search (rules, sentences)

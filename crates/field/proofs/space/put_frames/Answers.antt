@@ -6,4 +6,4 @@ use Rattle.field.proofs.space.put_frames.Goals as goal
 
 pub returns : goal.returns
 unfolding frame_words
-returns g c = search (rules, sentences)
+returns c = search (rules, sentences)

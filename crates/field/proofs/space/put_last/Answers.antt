@@ -6,5 +6,5 @@ use Rattle.field.proofs.space.put_last.Goals as goal
 
 pub returns : goal.returns
 unfolding last_words
-returns g c =
-    put_then c.put_value.ensures (put_then c.put_value-2.ensures (put_last (rw c.should_elicit_ack.ensures at c.put_value-3.ensures)))
+returns c =
+    put_then c.put_value-at.ensures (put_then c.put_value-at-2.ensures (put_last (rw c.should_elicit_ack.ensures at c.put_value.ensures)))

@@ -6,4 +6,4 @@ use Rattle.field.proofs.space.put_times.Goals as goal
 
 pub returns : goal.returns
 unfolding time_words
-returns g c = search (rules, sentences)
+returns c = search (rules, sentences)

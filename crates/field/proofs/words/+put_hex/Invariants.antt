@@ -2,4 +2,4 @@
 use Rattle.field.proofs.words.+put_hex.Given as goal
 
 abbrev pub decreases-put_hex : goal.decreases-put_hex
-decreases-put_hex g l = l.more
+decreases-put_hex l = l.more

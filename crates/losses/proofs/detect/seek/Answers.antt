@@ -10,4 +10,4 @@ returns-in_err-tally g c =
     let refused : c.from_residual.result ≡ Err c.in_err-tally.field-0.0 = search rules in
     refused
     ∙ rw (← c.held-count.ensures)
-    (seek_refused _ _ _ _ _ _ _ c.loop-place.invariant.sought c.acked_at-r.ensures c.loop-place-test.true c.if-j-r.false (cc) c.in_err-tally.field-0.0 (cc) (sym c.weigh_lost.ensures ∙ c.in_err-tally.was))
+    (seek_refused _ _ _ _ _ c.loop-place.invariant.sought c.acked_at-r.ensures c.loop-place-test.true c.if-j-r.false (cc) c.in_err-tally.field-0.0 (cc) (sym c.weigh_lost.ensures ∙ c.in_err-tally.was))

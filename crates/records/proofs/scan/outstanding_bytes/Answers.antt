@@ -3,4 +3,4 @@ use Rattle.records.proofs.Bytes.{scan_end}
 use Rattle.records.proofs.scan.outstanding_bytes.Goals as goal
 
 pub returns : goal.returns
-returns c = scan_end _ _ _ _ c.held-count.ensures c.loop-i.invariant.1 c.loop-i-test.false c.loop-i.invariant.0
+returns c = rw (← c.held-count.ensures) (scan_end _ _ _ _ _ _ _ c.loop-i.invariant.1 c.loop-i-test.false c.loop-i.invariant.0)

@@ -1,14 +1,13 @@
 -- `held::Held::hold` meets its contract, with room and without.
-use native.Mathlib.Omega.{arith}
-use Rattle.trace.proofs.Holding.{held_room, held_full}
+use Rattle.trace.proofs.Holding.{held_stays, held_more}
 use Rattle.trace.proofs.held.Held.hold.Goals as goal
 
-pub returns-then-self-lt-WORDS : goal.returns-then-self-lt-WORDS
-returns-then-self-lt-WORDS c =
-    let self = c.self.inside in
-    rw (← c.self.view_is) (held_room self.words self.count c.args.range (omega arith) (omega arith))
+pub invariant_of-self : goal.invariant_of-self
+invariant_of-self c =
+    let e = c.hold-self-inside.ensures in
+    rw (e.0, e.1) (held_stays c.self.invariant.0 c.self.invariant.1 c.args.range)
 
-pub returns-else-self-lt-WORDS : goal.returns-else-self-lt-WORDS
-returns-else-self-lt-WORDS c =
-    let self = c.self.inside in
-    rw (← c.self.view_is) (held_full self.words self.count c.args.range (omega arith) (omega arith))
+pub returns : goal.returns
+returns c =
+    let e = c.hold-self-inside.ensures in
+    rw (← c.self.view_is, e.0, e.1) (held_more c.self.invariant.0 c.self.invariant.1 c.args.range)
