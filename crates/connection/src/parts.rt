@@ -4,7 +4,7 @@ ghost use Rattle.model.specs.Numbers.{on_clock};
 ghost use Rattle.model.specs.Timer.{timer_of};
 ghost use Rattle.connection.specs.View.{normal_of, space_state_at, with_space_state};
 ghost use Rattle.connection.specs.Steps.{probed_space, facts_state, armed, timed_state};
-ghost use Rattle.connection.specs.Answers.{refused_by};
+ghost use Rattle.connection.specs.Answers.{refused_by, settled_by};
 
 use crate::{Answer, Normal, SpaceState, State};
 use arith::refusal::Refusal;
@@ -143,6 +143,19 @@ pub fn refused<T>(s: State, k: Refusal) -> Answer<T>
     Answer {
         outcome: Err(k),
         state: s,
+    }
+}
+
+// The answer of an event that decides over the state alone: the state that it comes to, or the one before.
+pub fn settled(s: State, decided: Result<State, Refusal>) -> Answer<()>
+    ensures { result ≡ settled_by s decided }
+{
+    match decided {
+        Ok(t) => Answer {
+            outcome: Ok(()),
+            state: t,
+        },
+        Err(k) => refused(s, k),
     }
 }
 

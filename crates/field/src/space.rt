@@ -4,7 +4,7 @@ ghost use Rattle.connection.specs.View.{space_of};
 ghost use Rattle.trace.specs.Put.{Put};
 ghost use Rattle.field.specs.Inspect.{time_words, frame_words, last_words, space_words};
 
-use crate::words::put_value;
+use crate::words::put_value_at;
 use connection::SpaceState;
 use estimate::timer::should_elicit_ack;
 use model::Epoch;
@@ -14,9 +14,9 @@ use records::memory::held;
 fn put_times(out: &mut [u8], at: usize, tag: &[u8], e: Epoch) -> usize
     ensures { Put out.old at (time_words tag.now e) out.new result }
 {
-    let at = put_value(out, at, tag, b"loss_time", e.loss_time);
-    let at = put_value(out, at, tag, b"loss_probes", e.loss_probes);
-    put_value(out, at, tag, b"in_flight_count", e.in_flight_count)
+    let at = put_value_at(out, at, tag, b"loss_time", e.loss_time);
+    let at = put_value_at(out, at, tag, b"loss_probes", e.loss_probes);
+    put_value_at(out, at, tag, b"in_flight_count", e.in_flight_count)
 }
 
 // How many records there are, and how many handles wait in each queue.
@@ -31,25 +31,25 @@ fn put_frames(
 ) -> usize
     ensures { Put out.old at (frame_words tag.now sent acked ack pto) out.new result }
 {
-    let at = put_value(out, at, tag, b"sent_packets", sent);
-    let at = put_value(out, at, tag, b"acked_frames", acked);
-    let at = put_value(out, at, tag, b"lost_frames_ack", ack);
-    put_value(out, at, tag, b"lost_frames_pto", pto)
+    let at = put_value_at(out, at, tag, b"sent_packets", sent);
+    let at = put_value_at(out, at, tag, b"acked_frames", acked);
+    let at = put_value_at(out, at, tag, b"lost_frames_ack", ack);
+    put_value_at(out, at, tag, b"lost_frames_pto", pto)
 }
 
 // The largest acked, the last eliciting send, and whether the next packet is to elicit an ack.
 fn put_last(out: &mut [u8], at: usize, tag: &[u8], e: Epoch, run: u64) -> usize
     ensures { Put out.old at (last_words tag.now e run) out.new result }
 {
-    let at = put_value(out, at, tag, b"largest_acked", e.largest_acked_packet);
-    let at = put_value(
+    let at = put_value_at(out, at, tag, b"largest_acked", e.largest_acked_packet);
+    let at = put_value_at(
         out,
         at,
         tag,
         b"last_ack_eliciting",
         e.time_of_last_ack_eliciting_packet,
     );
-    put_value(
+    put_value_at(
         out,
         at,
         tag,

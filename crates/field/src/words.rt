@@ -4,11 +4,13 @@ ghost use Rattle.std.specs.Float.{binary64};
 ghost use Rattle.std.specs.Float.Ieee.{to_bits};
 ghost use Rattle.model.specs.Trace.{decimal, timer_text};
 ghost use Rattle.trace.specs.Put.{Put};
+ghost use Rattle.trace.specs.Behind.{Behind};
 ghost use Rattle.field.specs.Words.{named, number_text, bit_text, threshold_text, hex_digit, hex, float_text};
 
 use arith::round::TimeThreshold;
 use arith::time::Moment;
 use trace::put::{put_byte, put_decimal, put_timer, put_word};
+use trace::text::Text;
 
 // The pattern that stands for every NaN.
 const NAN_BITS: u64 = 9221120237041090560;
@@ -43,8 +45,8 @@ pub fn bits_of(x: f64) -> u64
     if x == x { f64::to_bits(x) } else { NAN_BITS }
 }
 
-// What stands behind a word's `=`.
-pub trait Value {
+// What stands behind a word's `=`, written into a lent buffer from a place on.
+pub trait ValueAt {
     ghost text: { Self → List ℕ };
 
     fn put(self, out: &mut [u8], at: usize) -> usize
@@ -52,7 +54,7 @@ pub trait Value {
 }
 
 // A number in decimal.
-impl Value for u64 {
+impl ValueAt for u64 {
     ghost text = { decimal };
 
     fn put(self, out: &mut [u8], at: usize) -> usize {
@@ -61,7 +63,7 @@ impl Value for u64 {
 }
 
 // A moment in nanoseconds, or `-`.
-impl Value for Option<Moment> {
+impl ValueAt for Option<Moment> {
     ghost text = { timer_text };
 
     fn put(self, out: &mut [u8], at: usize) -> usize {
@@ -70,7 +72,7 @@ impl Value for Option<Moment> {
 }
 
 // A number, or `-`.
-impl Value for Option<u64> {
+impl ValueAt for Option<u64> {
     ghost text = { number_text };
 
     fn put(self, out: &mut [u8], at: usize) -> usize {
@@ -82,7 +84,7 @@ impl Value for Option<u64> {
 }
 
 // 1 or 0.
-impl Value for bool {
+impl ValueAt for bool {
     ghost text = { bit_text };
 
     fn put(self, out: &mut [u8], at: usize) -> usize {
@@ -91,7 +93,7 @@ impl Value for bool {
 }
 
 // A float as the 16 hex digits of its bits.
-impl Value for f64 {
+impl ValueAt for f64 {
     ghost text = { float_text };
 
     fn put(self, out: &mut [u8], at: usize) -> usize {
@@ -100,7 +102,7 @@ impl Value for f64 {
 }
 
 // `9/8` or `5/4`.
-impl Value for TimeThreshold {
+impl ValueAt for TimeThreshold {
     ghost text = { threshold_text };
 
     fn put(self, out: &mut [u8], at: usize) -> usize {
@@ -112,11 +114,92 @@ impl Value for TimeThreshold {
 }
 
 // What stands before a word, its name, `=` and its value.
-pub fn put_value<V: Value>(out: &mut [u8], at: usize, tag: &[u8], name: &[u8], value: V) -> usize
+pub fn put_value_at<V: ValueAt>(
+    out: &mut [u8],
+    at: usize,
+    tag: &[u8],
+    name: &[u8],
+    value: V,
+) -> usize
     ensures { Put out.old at (named tag.now name.now (V.text value)) out.new result }
 {
     let at = put_word(out, at, tag);
     let at = put_word(out, at, name);
     let at = put_byte(out, at, b'=');
     value.put(out, at)
+}
+
+// The same, put behind what a text has.
+pub trait Value<const N: usize> {
+    ghost text: { Self → List ℕ };
+
+    fn put(self, out: &mut Text<N>)
+        ensures { Behind N out.old (text self) out.new };
+}
+
+// By way of a buffer as long as the text may be.
+fn put_behind<const N: usize, V: ValueAt>(out: &mut Text<N>, value: V)
+    ensures { Behind N out.old (V.text value) out.new }
+{
+    let mut room = [0; N];
+    let n = value.put(&mut room, 0);
+    out.put_word(&room[..n]);
+}
+
+impl<const N: usize> Value<N> for u64 {
+    ghost text = { decimal };
+
+    fn put(self, out: &mut Text<N>) {
+        put_behind::<N, u64>(out, self);
+    }
+}
+
+impl<const N: usize> Value<N> for Option<Moment> {
+    ghost text = { timer_text };
+
+    fn put(self, out: &mut Text<N>) {
+        put_behind::<N, Option<Moment>>(out, self);
+    }
+}
+
+impl<const N: usize> Value<N> for Option<u64> {
+    ghost text = { number_text };
+
+    fn put(self, out: &mut Text<N>) {
+        put_behind::<N, Option<u64>>(out, self);
+    }
+}
+
+impl<const N: usize> Value<N> for bool {
+    ghost text = { bit_text };
+
+    fn put(self, out: &mut Text<N>) {
+        put_behind::<N, bool>(out, self);
+    }
+}
+
+impl<const N: usize> Value<N> for f64 {
+    ghost text = { float_text };
+
+    fn put(self, out: &mut Text<N>) {
+        put_behind::<N, f64>(out, self);
+    }
+}
+
+impl<const N: usize> Value<N> for TimeThreshold {
+    ghost text = { threshold_text };
+
+    fn put(self, out: &mut Text<N>) {
+        put_behind::<N, TimeThreshold>(out, self);
+    }
+}
+
+// What stands before a word, its name, `=` and its value.
+pub fn put_value<const N: usize, V: Value<N>>(out: &mut Text<N>, tag: &[u8], name: &[u8], value: V)
+    ensures { Behind N out.old (named tag.now name.now (V.text value)) out.new }
+{
+    out.put_word(tag);
+    out.put_word(name);
+    out.put_byte(b'=');
+    value.put(out);
 }

@@ -1,2 +1,3 @@
 pub mod Printing
 pub mod From
+pub mod Host

@@ -6,7 +6,7 @@ use Prim.Native.Nat.{ℕ, suc, zero, ◌+◌, ◌-◌, ◌≤◌}
 use native.Mathlib.Nat.{eq-zero-or-pos}
 use native.Mathlib.Omega.{arith}
 use lib.ListN.{length, take, drop, length-append, length-take, take-append-drop}
-use lib.Seq.{sets, sets-eq, length-sets, take-nil, take_at, drop_at, length-take-le}
+use lib.Seq.{sets, sets-eq, length-sets, take-nil, take_at, take-take, drop_at, length-take-le}
 use native.Mathlib.Numerals.{unary_clauses}
 use Rattle.std.proofs.lemmas.List.{take_all}
 use Rattle.trace.specs.Put.{Put}
@@ -77,6 +77,14 @@ module _ {out : List ℕ} {at : ℕ} {l after : List ℕ} {next : ℕ} (inside :
   behind_put {N} {t} size text =
       let e : length (take at out) ≡ at = length-take-le at out inside in
       record { is = rw (← size, ← text, e, put_split) (take_at (take at out ++ take (length out - at) l) (drop next out) next front_length) }
+
+-- what is written from the start of a buffer as long as a text may be is put behind the text as it would be without the buffer
+pub behind_room : {N : ℕ} {room l room' : List ℕ} {next : ℕ} {t after : List ℕ} → length room ≡ N → Put room 0 l room' next → Behind N t (take next room') after → Behind N t l after
+behind_room {N} {room} {l} {room'} {next} {t} size p q =
+    let first : Behind N [] l (take next room') = behind_put (omega arith) p size refl in
+    let e : N - 0 ≡ N = omega arith in
+    let written : take next room' ≡ take N l = rw e at first.is in
+    record { is = q.is ∙ ap (λ (k : List ℕ). t ++ k) (ap (take (N - length t)) written ∙ take-take (N - length t) N l (omega arith)) }
 
 -- zeros stay behind it
 pub padded_put : {size : ℕ} {out : List ℕ} {at : ℕ} {l after : List ℕ} {next : ℕ} → Padded size out at → Put out at l after next → Padded size after next

@@ -23,7 +23,7 @@ module _ (m : List ℕ) (n : ℕ) (r : Range) where
   unfolding count_with words_with
   hold-full k le e = let h : 130 ≤ n + 1 = omega arith in (rw (le-ltb _ _ h) e, rw (le-ltb _ _ h))
 
--- ---- the words held are the model's, as long as they come in pairs
+-- ---- the words held are the model's
 
 firsts-room : (m : List ℕ) (n a b : ℕ) → n + 1 < length m → take (n + 2) (set (set m n a) (n + 1) b) ≡ take n m ++ (a ∷ (b ∷ []))
 firsts-room m n a b lt =
@@ -35,6 +35,20 @@ firsts-room m n a b lt =
     let q : take (n + 1) (set m n a) ≡ take n m ++ (a ∷ []) = rw f (take-suc-set m n a k) in
     p ∙ (ap (λ (l : List ℕ). l ++ (b ∷ [])) q ∙ append_assoc (take n m) (a ∷ []) (b ∷ []))
 
+module _ (m : List ℕ) (n : ℕ) (r : Range) (whole : length m ≡ 130) where
+  pub held_room : n < 129 → take (n + 2) (set (set m n r.start) (n + 1) r.end) ≡ held_with (take n m) r
+  unfolding held_with
+  held_room lt =
+      let f : length (take n m) < 130 = rw (length-take n m) (omega arith) in
+      rw (lt-ltb (length (take n m)) 130 f) (firsts-room m n r.start r.end (omega arith))
+
+  pub held_full : 130 ≤ n → take n m ≡ held_with (take n m) r
+  unfolding held_with
+  held_full le =
+      let f : 130 ≤ length (take n m) = rw (length-take n m) (omega arith) in
+      rw (le-ltb (length (take n m)) 130 f)
+
+-- as long as they come in pairs
 module _ (m : List ℕ) (n : ℕ) (r : Range) (whole : length m ≡ 130) (even : n % 2 ≡ 0) where
   count_room : n ≤ 128 → count_with n % 2 ≡ 0
   count_room le = let e : n + 2 ≡ count_with n = (hold-room m n r (omega arith)).0 in omega arith
@@ -46,13 +60,11 @@ module _ (m : List ℕ) (n : ℕ) (r : Range) (whole : length m ≡ 130) (even :
   count-even = ⊎_elim (λ z. count_room (omega arith)) (λ pos. count-full (omega arith)) (eq-zero-or-pos (n - 128))
 
   holds-room : n ≤ 128 → firsts (count_with n) (words_with m n r) ≡ held_with (firsts n m) r
-  unfolding held_with
   holds-room le =
       let e = hold-room m n r (omega arith) in
       let c : min (n + 2) 130 ≡ n + 2 = omega arith in
       let d : min n 130 ≡ n = omega arith in
-      let f : length (take n m) < 130 = rw (length-take n m) (omega arith) in
-      rw (← e.0, ← e.1, c, d, lt-ltb (length (take n m)) 130 f) (firsts-room m n r.start r.end (omega arith))
+      rw (← e.0, ← e.1, c, d) (held_room m n r whole (omega arith))
 
   holds-full : 129 ≤ n → firsts (count_with n) (words_with m n r) ≡ held_with (firsts n m) r
   unfolding held_with

@@ -7,6 +7,6 @@ use Rattle.field.proofs.shared.put_rtt.Goals as goal
 pub returns : goal.returns
 unfolding rtt_words
 returns c =
-    let min = rw c.then_some.ensures at c.put_value-at-4.ensures in
-    let max = rw c.then_some-2.ensures at c.put_value.ensures in
-    put_then c.put_value-at.ensures (put_then c.put_value-at-2.ensures (put_then c.put_value-at-3.ensures (put_then min (put_last max))))
+    let min = rw c.then_some.ensures at c.put_value_at-at-4.ensures in
+    let max = rw c.then_some-2.ensures at c.put_value_at.ensures in
+    put_then c.put_value_at-at.ensures (put_then c.put_value_at-at-2.ensures (put_then c.put_value_at-at-3.ensures (put_then min (put_last max))))

@@ -7,4 +7,4 @@ use Rattle.field.proofs.space.put_last.Goals as goal
 pub returns : goal.returns
 unfolding last_words
 returns c =
-    put_then c.put_value-at.ensures (put_then c.put_value-at-2.ensures (put_last (rw c.should_elicit_ack.ensures at c.put_value.ensures)))
+    put_then c.put_value_at-at.ensures (put_then c.put_value_at-at-2.ensures (put_last (rw c.should_elicit_ack.ensures at c.put_value_at.ensures)))

@@ -1,6 +1,6 @@
 -- `words::put_value` meets its contract: what stands before, the name, `=` and the value.
-use Rattle.trace.proofs.Puts.{put_then}
+use Rattle.trace.proofs.Behinds.{behind_then}
 use Rattle.field.proofs.words.put_value.Goals as goal
 
 pub returns : goal.returns
-returns g c = put_then c.put_word-at.ensures (put_then c.put_word-at-2.ensures (put_then c.put_byte-at.ensures c.put.ensures))
+returns g c = behind_then c.put_word.ensures (behind_then c.put_word-2.ensures (behind_then c.put_byte.ensures c.put.ensures))
