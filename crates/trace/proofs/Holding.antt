@@ -67,12 +67,10 @@ module _ (m : List ℕ) (n : ℕ) (r : Range) (whole : length m ≡ 130) (even :
       rw (← e.0, ← e.1, c, d) (held_room m n r whole (omega arith))
 
   holds-full : 129 ≤ n → firsts (count_with n) (words_with m n r) ≡ held_with (firsts n m) r
-  unfolding held_with
   holds-full le =
       let e = hold-full m n r 130 le (omega arith) in
       let d : min n 130 ≡ 130 = omega arith in
-      let f : 130 ≤ length (take 130 m) = rw (length-take 130 m) (omega arith) in
-      rw (← e.0, ← e.1, d, le-ltb (length (take 130 m)) 130 f)
+      rw (← e.0, ← e.1, d) (held_full m 130 r whole (omega arith))
 
   pub holds : firsts (count_with n) (words_with m n r) ≡ held_with (firsts n m) r
   holds = ⊎_elim (λ z. holds-room (omega arith)) (λ pos. holds-full (omega arith)) (eq-zero-or-pos (n - 128))
